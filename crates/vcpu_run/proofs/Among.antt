@@ -1,39 +1,40 @@
--- Tags that stand among others, in their order.
+-- Items that stand among others, in their order, and the tags of entries.
 use Rattle.std.proofs.Common.{◌≡◌, ◌∙◌, inl, inr, ℕ, List, [], ◌∷◌, ◌++◌, filter, map, refl, sym, ap, subst, append-nil}
 use Rattle.std.proofs.lemmas.List.{append_assoc, map-append}
 use Rattle.std.proofs.lemmas.List.Elements.{filter-append}
 use Rattle.vio_num.specs.declared.entry.Entry.{Entry}
 use Rattle.vio_num.specs.Entry.{is_srp_entry}
 use Rattle.crq_ring.specs.declared.rows.PipeRow.{PipeRow}
-use Rattle.vcpu_run.specs.AnswersTaken.{AreAmong, tags_among, tags_taken}
+use Rattle.vcpu_run.specs.Among.{AreAmong}
+use Rattle.vcpu_run.specs.AnswersTaken.{tags_among, tags_taken}
 
-pub among_same : (tags : List ℕ) → AreAmong tags tags
+pub among_same : {Item : Type 0} (items : List Item) → AreAmong items items
 among_same [] = tt
-among_same (tag ∷ tags) = inl (refl, among_same tags)
+among_same (item ∷ items) = inl (refl, among_same items)
 
 -- one more behind which they are sought
-pub among_skip : (tags : List ℕ) (other : ℕ) (others : List ℕ) → AreAmong tags others → AreAmong tags (other ∷ others)
+pub among_skip : {Item : Type 0} (items : List Item) (other : Item) (others : List Item) → AreAmong items others → AreAmong items (other ∷ others)
 among_skip [] other others is = tt
-among_skip (tag ∷ tags) other others is = inr is
+among_skip (item ∷ items) other others is = inr is
 
 -- more behind the others
-pub among_more : (tags others more : List ℕ) → AreAmong tags others → AreAmong tags (others ++ more)
+pub among_more : {Item : Type 0} (items others more : List Item) → AreAmong items others → AreAmong items (others ++ more)
 among_more [] others more is = tt
-among_more (tag ∷ tags) [] more is = absurd is
-among_more (tag ∷ tags) (other ∷ others) more (inl h) = inl (h.0, among_more tags others more h.1)
-among_more (tag ∷ tags) (other ∷ others) more (inr h) = inr (among_more (tag ∷ tags) others more h)
+among_more (item ∷ items) [] more is = absurd is
+among_more (item ∷ items) (other ∷ others) more (inl h) = inl (h.0, among_more items others more h.1)
+among_more (item ∷ items) (other ∷ others) more (inr h) = inr (among_more (item ∷ items) others more h)
 
 -- these stand at their end
-among_end : (more others : List ℕ) → AreAmong more (others ++ more)
+among_end : {Item : Type 0} (more others : List Item) → AreAmong more (others ++ more)
 among_end more [] = among_same more
 among_end more (other ∷ others) = among_skip more other (others ++ more) (among_end more others)
 
 -- the same more behind both
-pub among_both : (tags others more : List ℕ) → AreAmong tags others → AreAmong (tags ++ more) (others ++ more)
+pub among_both : {Item : Type 0} (items others more : List Item) → AreAmong items others → AreAmong (items ++ more) (others ++ more)
 among_both [] others more is = among_end more others
-among_both (tag ∷ tags) [] more is = absurd is
-among_both (tag ∷ tags) (other ∷ others) more (inl h) = inl (h.0, among_both tags others more h.1)
-among_both (tag ∷ tags) (other ∷ others) more (inr h) = inr (among_both (tag ∷ tags) others more h)
+among_both (item ∷ items) [] more is = absurd is
+among_both (item ∷ items) (other ∷ others) more (inl h) = inl (h.0, among_both items others more h.1)
+among_both (item ∷ items) (other ∷ others) more (inr h) = inr (among_both (item ∷ items) others more h)
 
 -- without the first
 among_tail : (tag : ℕ) (tags others : List ℕ) → AreAmong (tag ∷ tags) others → AreAmong tags others

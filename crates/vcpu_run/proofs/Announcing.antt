@@ -21,7 +21,7 @@ use Rattle.vscsi_client.specs.Frames.{HasMore, IsOpened, OnlyTurns, Renews}
 use Rattle.vcpu_run.specs.Freed.{FreesNone}
 use Rattle.vcpu_run.specs.DropsStay.{DropsStay}
 use Rattle.vcpu_run.proofs.DropsStay.{stay_full, stay_none, stay_on, stay_puts, stay_ready, stay_same}
-use Rattle.vcpu_run.specs.Announces.{Announces, HaveEvents, IsAmong, IsOnItsWay, IsTold, KeepsEvent}
+use Rattle.vcpu_run.specs.Announces.{Announces, HaveEvents, IsAmong, IsOnItsWay, IsAnnounced, KeepsEvent}
 
 pub both_bools : (b : Bool) → b ≡ true → b ≡ false → ⊥
 both_bools b t f = cc
@@ -124,7 +124,7 @@ puts_on a b c place session first next = record {
     way_on event on (inl is) = way_behind event (next.kept event is (place ∙ on))
     way_on event on (inr is) = inr (among_front event b.counts.partner_session c.counts.partner_session first.rows next.rows session is)
 
-    freed : a.registered ≡ true → c.registered ≡ false → a.place.partner_registered ≡ true → (r : Bool) → b.registered ≡ r → IsTold (first.rows ++ next.rows) c
+    freed : a.registered ≡ true → c.registered ≡ false → a.place.partner_registered ≡ true → (r : Bool) → b.registered ≡ r → IsAnnounced (first.rows ++ next.rows) c
     freed was off on true e =
         let told = next.freed e off (place ∙ on) in
         (told.0, told.1, way_behind told.0 told.2)
@@ -132,20 +132,20 @@ puts_on a b c place session first next = record {
         let told = first.freed was e on in
         (told.0, told.1, way_on told.0 on told.2)
 
-    told_first : a.place.partner_registered ≡ true → IsTold first.rows b → IsTold (first.rows ++ next.rows) c
+    told_first : a.place.partner_registered ≡ true → IsAnnounced first.rows b → IsAnnounced (first.rows ++ next.rows) c
     told_first on told = (told.0, told.1, way_on told.0 on told.2)
 
-    told_next : IsTold next.rows c → IsTold (first.rows ++ next.rows) c
+    told_next : IsAnnounced next.rows c → IsAnnounced (first.rows ++ next.rows) c
     told_next told = (told.0, told.1, way_behind told.0 told.2)
 
-    both : a.place.partner_registered ≡ true → HaveEvents first.rows ⊎ IsTold first.rows b → HaveEvents next.rows ⊎ IsTold next.rows c
-        → HaveEvents (first.rows ++ next.rows) ⊎ IsTold (first.rows ++ next.rows) c
+    both : a.place.partner_registered ≡ true → HaveEvents first.rows ⊎ IsAnnounced first.rows b → HaveEvents next.rows ⊎ IsAnnounced next.rows c
+        → HaveEvents (first.rows ++ next.rows) ⊎ IsAnnounced (first.rows ++ next.rows) c
     both on (inl events) (inl more) = inl (All-append (λ (row : PipeRow). first_byte row.entry ≡ 0xFF) first.rows next.rows events more)
     both on (inr told) more = inr (told_first on told)
     both on (inl events) (inr told) = inr (told_next told)
 
     gone : KeepsEvent a.kept → c.registered ≡ false → a.place.partner_registered ≡ true → (r : Bool) → b.registered ≡ r
-        → HaveEvents (first.rows ++ next.rows) ⊎ IsTold (first.rows ++ next.rows) c
+        → HaveEvents (first.rows ++ next.rows) ⊎ IsAnnounced (first.rows ++ next.rows) c
     gone is off on true e = inr (told_next (next.freed e off (place ∙ on)))
     gone is off on false e = both on (first.off is e on) (next.off (first.says is) off (place ∙ on))
 

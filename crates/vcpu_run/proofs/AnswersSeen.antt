@@ -1,5 +1,5 @@
 -- The answers of a client stay read as its window grows, and one that is noted was read.
-use Rattle.std.proofs.Common.{◌≡◌, ◌∙◌, ℕ, Bool, true, List, [], ◌∷◌, ◌++◌, Option, Some, None, IsSomeAnd, length, sym, ap, subst, append_assoc}
+use Rattle.std.proofs.Common.{◌≡◌, ◌∙◌, ℕ, ◌<◌, Bool, true, List, [], ◌∷◌, ◌++◌, Option, Some, None, IsSomeAnd, length, refl, sym, ap, subst, append_assoc}
 use Rattle.std.proofs.lemmas.List.Elements.{All-append, All-cons, All-nil, All-weaker}
 use Rattle.page_slots.specs.Stroke.{StrokeValue}
 use Rattle.tce_window.specs.Port.{Grows}
@@ -15,10 +15,14 @@ use Rattle.vscsi_client.specs.Slots.{Holds}
 use Rattle.vscsi_client.specs.State.{ClientState}
 use Rattle.vscsi_client.specs.Taking.{TakesEntry, slot_of}
 use Rattle.vscsi_client.specs.Units.{slot_address}
+use Rattle.vscsi_client.specs.declared.TheConstants.{SLOTS}
 use Rattle.vscsi_client.specs.declared.answers.Taken.TheVariants as takens
+use Rattle.vscsi_client.proofs.Requests.{slot_within}
 use Rattle.unit_region.specs.Kept.{KeepsWindow}
 use Rattle.vcpu_run.specs.AnswersSeen.{AreResponsesRead, IsFront, IsResponseRead, fronts_of}
 use Rattle.vcpu_run.specs.Takings.{Notes}
+use Rattle.vcpu_run.specs.ClientSlots.{HoldsSlots}
+use Rattle.vcpu_run.proofs.SlotsKept.{fetched_slots}
 use Rattle.unit_region.proofs.Laws.{front_of, touched}
 
 -- a front stays one as the page grows
@@ -41,6 +45,7 @@ response_more a b more row is = record {
   response = is.response;
   canonical = is.canonical;
   slot = is.slot;
+  within = is.within;
   bytes = is.bytes;
   spells = is.spells;
   fronts = is.fronts;
@@ -62,11 +67,12 @@ responses_keep shared own own' answers answers' keeps same all =
     subst (AreResponsesRead (fronts_of own'.strokes)) (sym same) (responses_grow (side_at own) (side_at own') keeps.grows answers all)
 
 -- what a slot holds was read there
-held_read : (own : PortState) (slot : ℕ) (response : Response) (row : AnswerRow) → Holds own slot (units.Rsp response) → Canon row.answer (units.Rsp response) → IsResponseRead (fronts_of own.strokes) row
-held_read own slot response row holds canonical = record {
+held_read : (own : PortState) (slot : ℕ) (response : Response) (row : AnswerRow) → slot < SLOTS → Holds own slot (units.Rsp response) → Canon row.answer (units.Rsp response) → IsResponseRead (fronts_of own.strokes) row
+held_read own slot response row within holds canonical = record {
   response = response;
   canonical = canonical;
   slot = slot;
+  within = within;
   bytes = holds.bytes;
   spells = holds.spells;
   fronts = own.strokes;
@@ -74,15 +80,23 @@ held_read own slot response row holds canonical = record {
   read = holds.are.read.bytes;
 }
 
-slot_held : (own : PortState) (response : Response) (o : Option ℕ) → IsSomeAnd o (λ slot. Holds own slot (units.Rsp response)) → (slot : ℕ) × Holds own slot (units.Rsp response)
-slot_held own response None is = absurd is
-slot_held own response (Some slot) is = (slot, is)
+-- a request that is outstanding has a slot, and what it holds
+pub record SlotHeld (own : PortState) (response : Response) : Type 0 where
+  pub slot : ℕ
+  pub within : slot < SLOTS
+  pub holds : Holds own slot (units.Rsp response)
+
+slot_held : (own : PortState) (response : Response) (o : Option ℕ) → ((slot : ℕ) → o ≡ Some slot → slot < SLOTS) → IsSomeAnd o (λ slot. Holds own slot (units.Rsp response))
+    → SlotHeld own response
+slot_held own response None within is = absurd is
+slot_held own response (Some slot) within is = record { slot = slot; within = within slot refl; holds = is }
 
 -- an answer was taken, and noted
 pub noted_read : (s s' : ClientState) (old new : Ports) (tag : ℕ) (response : Response) (answers answers' : List AnswerRow) → TakesEntry s s' old new (takens.Answer tag response)
-    → Notes tag response answers answers' → AreResponsesRead (fronts_of new.own.strokes) answers → AreResponsesRead (fronts_of new.own.strokes) answers'
-noted_read s s' old new tag response answers answers' takes notes all =
-    let held = slot_held new.own response (slot_of tag takes.kept.outgoing) takes.judged.judged.2 in
+    → Notes tag response answers answers' → HoldsSlots s → AreResponsesRead (fronts_of new.own.strokes) answers → AreResponsesRead (fronts_of new.own.strokes) answers'
+noted_read s s' old new tag response answers answers' takes notes has all =
+    let kept : HoldsSlots takes.kept = fetched_slots s s' old new (takens.Answer tag response) takes has in
+    let held = slot_held new.own response (slot_of tag takes.kept.outgoing) (λ slot. slot_within tag takes.kept.outgoing slot kept.requests) takes.judged.judged.2 in
     subst (AreResponsesRead (fronts_of new.own.strokes)) (sym notes.rows)
     (All-append (IsResponseRead (fronts_of new.own.strokes)) answers (notes.row ∷ []) all
-    (All-cons (IsResponseRead (fronts_of new.own.strokes)) notes.row [] (held_read new.own held.0 response notes.row held.1 notes.canonical) (All-nil (IsResponseRead (fronts_of new.own.strokes)))))
+    (All-cons (IsResponseRead (fronts_of new.own.strokes)) notes.row [] (held_read new.own held.slot response notes.row held.within held.holds notes.canonical) (All-nil (IsResponseRead (fronts_of new.own.strokes)))))

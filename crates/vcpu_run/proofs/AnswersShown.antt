@@ -104,6 +104,7 @@ response_named front_at client row is = record {
   response = is.response;
   canonical = is.canonical;
   slot = is.slot;
+  within = is.within;
   bytes = is.bytes;
   spells = is.spells;
   fronts = is.fronts;

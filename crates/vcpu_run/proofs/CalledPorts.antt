@@ -1,8 +1,10 @@
 -- What a raw call makes of the ports of its partition: the addresses that they have, and the offers to them.
-use Rattle.std.proofs.Common.{◌≡◌, ◌≢◌, ◌⊎◌, inl, inr, ◌/◌, ◌==◌, ◌&&◌, ℕ, cond, Bool, true, false, List, Option, Some, None, Result, Ok, Err, IfOk, OnOk, refl, sym, ◌∙◌, ap, ap₂, subst, arith, slice_index, if◌then◌else◌}
+use Rattle.std.proofs.Common.{◌≡◌, ◌≢◌, ◌⊎◌, inl, inr, ◌/◌, ◌==◌, ◌&&◌, ℕ, cond, Bool, true, false, List, [], append-nil, Option, Some, None, Result, Ok, Err, IfOk, OnOk, refl, sym, ◌∙◌, ap, ap₂, subst, arith, slice_index, if◌then◌else◌}
 use Rattle.std.specs.List.{Contains}
 use Rattle.std.proofs.lemmas.Bool.Decides.{nat_tests}
+use Rattle.vio_num.specs.Words.{Begins}
 use Rattle.vio_num.specs.declared.hypervisor.Hrc.{Hrc}
+use Rattle.vio_num.specs.declared.hypervisor.Hrc.TheVariants.{Success}
 use Rattle.vio_num.specs.declared.memory.NoMemory.{NoMemory}
 use Rattle.vio_num.specs.declared.names.Mac.{Mac}
 use Rattle.vio_num.specs.declared.names.UnitId.{UnitId}
@@ -22,29 +24,40 @@ use Rattle.vio_trace.specs.declared.outcome.Outcome.{Outcome}
 use Rattle.vio_trace.specs.declared.outcome.Outcome.TheVariants as outcomes
 use Rattle.lan_script.specs.CalledMac.{low_mac, mac_called}
 use Rattle.lan_script.specs.OwnMac.{MovesMac, changed_to, mac_at}
-use Rattle.lan_script.specs.PortCounts.{CountsOn, SendsCalled, counts, counts_called}
+use Rattle.lan_script.specs.Buffers.{posted_at}
+use Rattle.lan_script.specs.Entries.{ValuesGrow, values_at}
+use Rattle.lan_script.specs.Invariant.{sent_by}
+use Rattle.lan_script.specs.LineSays.{SentAs}
+use Rattle.lan_script.specs.PortCounts.{CountsOn, PortCounts, SendsCalled, counts, counts_called, posted_on}
 use Rattle.lan_script.specs.PortReplay.{PortReplay}
 use Rattle.vcpu_run.specs.PortRegions.{RegionsKept}
 use Rattle.lan_script.specs.Replayed.{SameBeside, replay_at}
 use Rattle.lan_script.specs.Units.{LanValue}
 use Rattle.lan_script.specs.Values.{SameValuesBeside}
 use Rattle.lan_script.specs.declared.calls.PortCall.{PortCall}
-use Rattle.lan_script.proofs.Laws.{mac_same, weaker_mac}
+use Rattle.lan_script.specs.declared.calls.PortCall.TheVariants as calls
+use Rattle.lan_script.specs.declared.seat.PortSeat.{PortSeat}
+use Rattle.lan_script.proofs.Laws.{grown_posted, mac_same, weaker_mac}
 use Rattle.vcpu_run.specs.CallRows.{gives, says}
-use Rattle.vcpu_run.specs.PortMacs.{CallsPort, CallsPorts, EndsPorts, mac_asked}
-use Rattle.vcpu_run.specs.PortReplays.{IsStill}
-use Rattle.vcpu_run.specs.PortSteps.{IsBeside}
+use Rattle.vcpu_run.specs.PortMacs.{CallsPort, CallsPorts, EndsPorts, IsOfCall, mac_asked}
+use Rattle.vcpu_run.specs.PortReplays.{sent_at}
+use Rattle.vcpu_run.specs.PortSteps.{IsBeside, IsIdle}
 use Rattle.vcpu_run.specs.Ports.{unit_of}
 use Rattle.vcpu_run.specs.RawCalls.{CallsBy, mac_of_row}
 use Rattle.vcpu_run.specs.Suited.{is_call}
+use Rattle.vcpu_run.proofs.PortPosting.{idle_posted}
 use Rattle.vcpu_run.proofs.PortRising.{apart_of, call_beside}
 
--- a port that stands as it did
-still_called : (given : Option Mac) (unit : UnitId) (old new : LanValue) → IsStill old new unit → CallsPort given unit old new
-still_called given unit old new still = record {
-  seats = still.seats;
-  since = still.offered;
-  moves = mac_same given (replay_at old unit) (replay_at new unit) (ap (λ (r : PortReplay). r.settings) still.replay);
+-- a port that did nothing
+still_called : (given : Option Mac) (unit : UnitId) (old new : LanValue) → IsIdle old new unit → CallsPort given unit old new
+still_called given unit old new idle = record {
+  seats = idle.still.seats;
+  since = idle.still.offered;
+  moves = mac_same given (replay_at old unit) (replay_at new unit) (ap (λ (r : PortReplay). r.settings) idle.still.replay);
+  frames = ([], idle.still.rows ∙ sym (append-nil (sent_at old unit)));
+  posted = ([], idle_posted old new unit idle ∙ sym (append-nil (posted_at old unit)));
+  taken = omega (arith, ap (λ (c : PortCounts). c.taken) idle.counts);
+  values = λ e. ([], idle.still.values e ∙ sym (append-nil (values_at old unit e)));
 }
 
 -- no port did anything
@@ -53,6 +66,10 @@ none_called given unit lan = record {
   seats = refl;
   since = λ sender other row kept. inl kept;
   moves = mac_same given (replay_at lan unit) (replay_at lan unit) refl;
+  frames = ([], sym (append-nil (sent_at lan unit)));
+  posted = ([], sym (append-nil (posted_at lan unit)));
+  taken = omega arith;
+  values = λ e. ([], sym (append-nil (values_at lan unit e)));
 }
 
 pub ports_same : (partition unit : ℕ) (given : Option Mac) (lan : LanValue) → CallsPorts partition unit given lan lan
@@ -68,15 +85,46 @@ weaker_called given unit old new h = record {
   seats = h.seats;
   since = h.since;
   moves = weaker_mac given (mac_at old unit) (mac_at new unit) h.moves;
+  frames = h.frames;
+  posted = h.posted;
+  taken = h.taken;
+  values = h.values;
 }
+
+-- the frames of a unit that made a call
+sent_more : (unit : UnitId) (code : Hrc) (number : Option ℕ) (old new : LanValue) → new.seats ≡ old.seats → SentAs unit code number old new
+    → Begins (sent_at old unit) (sent_at new unit)
+sent_more unit code None old new seats same =
+    ([], ap₂ (λ (ss : List PortSeat) (rows : List (List FrameRow)). sent_by ss rows unit) seats same ∙ sym (append-nil (sent_at old unit)))
+sent_more unit code (Some number) old new seats sent =
+    (_, ap (λ (ss : List PortSeat). sent_by ss new.frames unit) seats ∙ sent.sent unit)
+
+called_sent : (unit : UnitId) (call : PortCall) (code : Hrc) (old new : LanValue) → new.seats ≡ old.seats → SendsCalled unit call code old new
+    → Begins (sent_at old unit) (sent_at new unit)
+called_sent unit (calls.Send descriptors) code old new seats sent = sent_more unit code sent.0 old new seats sent.1
+called_sent unit (calls.Entry call) code old new seats same = sent_more unit code None old new seats same
+called_sent unit (calls.Register list queue filters mac) code old new seats same = sent_more unit code None old new seats same
+called_sent unit calls.Free code old new seats same = sent_more unit code None old new seats same
+called_sent unit (calls.Add descriptor) code old new seats same = sent_more unit code None old new seats same
+called_sent unit (calls.Multicast control mac) code old new seats same = sent_more unit code None old new seats same
+called_sent unit (calls.ChangeMac mac) code old new seats same = sent_more unit code None old new seats same
+
+-- no call takes a frame
+none_called_taken : (call : PortCall) (code : Hrc) → (counts_called call code).taken ≡ 0
+none_called_taken (calls.Add descriptor) code = by code
+  where
+    by : (c : Hrc) → (posted_on c).taken ≡ 0
+    by Success = refl
+    by c = refl
+none_called_taken call code = refl
 
 -- a call at a port: of its own address it makes what it gives, and of the others' nothing
 pub port_called : (partition unit : ℕ) (call : PortCall) (code : Hrc) (old new : LanValue) → new.seats ≡ old.seats
     → CountsOn (unit_of partition unit) (counts 0 0) (counts_called call code) old new → SendsCalled (unit_of partition unit) call code old new
-    → SameBeside (unit_of partition unit) old new → SameValuesBeside (unit_of partition unit) old new → RegionsKept old new
+    → SameBeside (unit_of partition unit) old new → ValuesGrow (unit_of partition unit) old new → SameValuesBeside (unit_of partition unit) old new → RegionsKept old new
     → MovesMac (mac_called call code) (replay_at old (unit_of partition unit)) (replay_at new (unit_of partition unit))
     → CallsPorts partition unit (mac_called call code) old new
-port_called partition unit call code old new seats counted sent replays values regions moves u = by (unit == u) refl
+port_called partition unit call code old new seats counted sent replays grows values regions moves u = by (unit == u) refl
   where
     beside : IsBeside (unit_of partition unit) old new
     beside = call_beside (unit_of partition unit) call code (counts 0 0) (counts_called call code) old new seats sent counted replays values
@@ -88,6 +136,10 @@ port_called partition unit call code old new seats counted sent replays values r
       since = λ sender apart row kept.
           inl (subst (λ (l : List FrameRow). Contains l row) (beside sender (apart_of sender (unit_of partition unit) apart)).still.rows kept);
       moves = moves;
+      frames = called_sent (unit_of partition unit) call code old new seats sent;
+      posted = grown_posted old new (unit_of partition unit) counted.grows;
+      taken = omega (arith, counted.taken, none_called_taken call code);
+      values = grows;
     }
 
     other : (unit == u) ≡ false → unit_of partition u ≢ unit_of partition unit
@@ -98,20 +150,20 @@ port_called partition unit call code old new seats counted sent replays values r
 
     by : (b : Bool) → (unit == u) ≡ b → CallsPort (cond b (mac_called call code) None) (unit_of partition u) old new
     by true e = subst (λ n. CallsPort (mac_called call code) (unit_of partition n) old new) (same_of e) own
-    by false e = still_called None (unit_of partition u) old new (beside (unit_of partition u) (other e)).still
+    by false e = still_called None (unit_of partition u) old new (beside (unit_of partition u) (other e))
 
 pub port_called_ok : (partition unit : ℕ) (id : UnitId) (call : PortCall) (r : Result Returned NoMemory) (old new : LanValue) → id ≡ unit_of partition unit
     → new.seats ≡ old.seats
     → IfOk r (λ returned. CountsOn id (counts 0 0) (counts_called call returned.code) old new) → IfOk r (λ returned. SendsCalled id call returned.code old new)
-    → OnOk r (SameBeside id old new) → OnOk r (SameValuesBeside id old new) → OnOk r (RegionsKept old new)
+    → OnOk r (SameBeside id old new) → OnOk r (ValuesGrow id old new) → OnOk r (SameValuesBeside id old new) → OnOk r (RegionsKept old new)
     → IfOk r (λ returned. MovesMac (mac_called call returned.code) (replay_at old id) (replay_at new id))
     → IfOk r (λ returned. CallsPorts partition unit (mac_called call returned.code) old new)
-port_called_ok partition unit id call (Err memory) old new is seats counted sent replays values regions moves = tt
-port_called_ok partition unit id call (Ok returned) old new is seats counted sent replays values regions moves =
+port_called_ok partition unit id call (Err memory) old new is seats counted sent replays grows values regions moves = tt
+port_called_ok partition unit id call (Ok returned) old new is seats counted sent replays grows values regions moves =
     port_called partition unit call returned.code old new seats
     (subst (λ (i : UnitId). CountsOn i (counts 0 0) (counts_called call returned.code) old new) is counted)
     (subst (λ (i : UnitId). SendsCalled i call returned.code old new) is sent) (subst (λ (i : UnitId). SameBeside i old new) is replays)
-    (subst (λ (i : UnitId). SameValuesBeside i old new) is values) regions
+    (subst (λ (i : UnitId). ValuesGrow i old new) is grows) (subst (λ (i : UnitId). SameValuesBeside i old new) is values) regions
     (subst (λ (i : UnitId). MovesMac (mac_called call returned.code) (replay_at old i) (replay_at new i)) is moves)
 
 -- ---- which unit a call names
@@ -260,10 +312,18 @@ says_given unit (Some rows.MulticastCtrl) args returned = refl
 pub ends_ports : (partition number : ℕ) (args : List ℕ) (old new later : LanValue) (returned : Returned) (outcome : Outcome) → later ≡ new
     → outcome ≡ says number returned → CallsBy partition number args old new returned
     → EndsPorts partition (verbs.Hcall number args) old later (steps.Ends outcome)
-ends_ports partition number args old new later returned outcome same is h u =
-    subst (λ (l : LanValue). CallsPort (mac_asked (unit_of partition u) (row_of number) args outcome) (unit_of partition u) old l) (sym same)
-    (subst (λ (g : Option Mac). CallsPort g (unit_of partition u) old new)
-    (sym (ap (mac_asked (unit_of partition u) (row_of number) args) is ∙ says_given (unit_of partition u) (row_of number) args returned)) (h u))
+ends_ports partition number args old new later returned outcome same is h =
+    (subst IsOfCall (sym is) (of_call (gives (row_of number) returned.code)), ports)
+  where
+    of_call : (b : Bool) → IsOfCall (cond b (outcomes.Value returned.r4) (outcomes.Code returned.code))
+    of_call true = tt
+    of_call false = tt
+
+    ports : (u : ℕ) → CallsPort (mac_asked (unit_of partition u) (row_of number) args outcome) (unit_of partition u) old later
+    ports u =
+        subst (λ (l : LanValue). CallsPort (mac_asked (unit_of partition u) (row_of number) args outcome) (unit_of partition u) old l) (sym same)
+        (subst (λ (g : Option Mac). CallsPort g (unit_of partition u) old new)
+        (sym (ap (mac_asked (unit_of partition u) (row_of number) args) is ∙ says_given (unit_of partition u) (row_of number) args returned)) (h u))
 
 -- a step of a line that makes a call, and of one that makes none
 pub called_ports : (partition : ℕ) (verb made : Verb) (r : Result Step NoMemory) (old new : LanValue) → verb ≡ made → IfOk r (EndsPorts partition made old new)

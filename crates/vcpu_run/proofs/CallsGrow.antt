@@ -1,8 +1,9 @@
 -- What a record says of a raw call stays so as the run goes on: what there was of the units is there.
-use Rattle.std.proofs.Common.{◌≡◌, ◌↔◌, ◌∙◌, ◌+◌, ◌/◌, ℕ, true, false, List, [], ◌∷◌, Option, Some, None, IfSome, IsSomeAnd, length, refl, sym, ap, subst}
+use Rattle.std.proofs.Common.{◌≡◌, ◌↔◌, ◌∙◌, ◌+◌, ◌/◌, ◌<◌, ℕ, true, false, List, [], ◌∷◌, Option, Some, None, IfSome, IsSome, IsSomeAnd, length, refl, sym, ap, subst}
 use Rattle.std.specs.List.{slice_get}
 use Rattle.std.specs.Option.{option_map}
 use Rattle.vio_num.specs.declared.entry.Entry.{Entry}
+use Rattle.vio_num.specs.declared.names.UnitId.{UnitId}
 use Rattle.vio_num.specs.declared.hypervisor.Hrc.TheVariants as codes
 use Rattle.boot_text.specs.declared.plan.Line.{Line}
 use Rattle.boot_text.specs.declared.verb.Verb.{Verb}
@@ -15,23 +16,30 @@ use Rattle.vio_trace.specs.declared.outcome.Outcome.{Outcome}
 use Rattle.vio_trace.specs.declared.outcome.Outcome.TheVariants as outcomes
 use Rattle.vio_trace.specs.declared.rows.LogRow.{LogRow}
 use Rattle.page_slots.specs.Stroke.{StrokeValue}
+use Rattle.tce_window.specs.PlainPort.{known_of}
+use Rattle.tce_window.specs.Window.{strokes_at}
 use Rattle.unit_region.specs.EntryAnswers.{is_list}
+use Rattle.unit_region.specs.RegionLines.{IsFrontOn}
 use Rattle.vcpu_run.specs.declared.driver.Driver.{Driver}
 use Rattle.vcpu_run.specs.declared.pair.Pair.{Pair}
 use Rattle.vcpu_run.specs.declared.unit_seat.Seat.{Seat}
 use Rattle.vcpu_run.specs.declared.unit_seat.Seat.TheVariants as sits
-use Rattle.vcpu_run.specs.CallsAnswered.{IsDone, IsListPut, IsListRead, IsListUntaken, IsUntaken, UnitSeen, is_taken, no_client, unit_seen}
-use Rattle.vcpu_run.specs.CallsSaid.{CallsSaid, IfDone, IsCallSaid, IsSaidOf, IsUnitSaid, UnitsSeen, seen_from}
+use Rattle.vcpu_run.specs.CallsAnswered.{IsDone, IsListPut, IsListRead, IsListUntaken, IsUntaken, UnitSeen, WhyBusy, is_taken, no_client, pair_of, unit_seen, unit_then}
+use Rattle.vcpu_run.specs.CallsSaid.{CallsSaid, IfDone, IsCallSaid, IsSaidOf, IsUnitSaid, UnitsSeen, seen_then}
 use Rattle.vcpu_run.specs.LinesShow.{Sees, seen_at}
-use Rattle.vcpu_run.specs.Machines.{AllStay, KeepsDriver, Stays}
-use Rattle.vcpu_run.specs.RawCalls.{pair_of}
+use Rattle.vcpu_run.specs.Machines.{AllStay, KeepsDriver, KeepsEntries, Stays}
+use Rattle.vcpu_run.specs.Moments.{IsMoment}
 use Rattle.vcpu_run.proofs.Listed.{came_from}
+use Rattle.vcpu_run.proofs.MomentsThen.{then_more}
+use Rattle.vcpu_run.proofs.ValuesBehind.{behind_more}
 
--- Of a unit the window has as many pages, and all that there was is there.
+-- Of a unit the window has as many pages, all that there was is there, and what is held was.
 pub record UnitGrows (a b : UnitSeen) : Type 0 where
   pub pages : b.pages ≡ a.pages
   pub values : (entry value : ℕ) → a.value_at entry value → b.value_at entry value
+  pub puts : (entry value : ℕ) → a.put_at entry value → b.put_at entry value
   pub fronts : (page : ℕ) (front : Option (List StrokeValue)) → a.region.front_at page front → b.region.front_at page front
+  pub held : a.is_held → b.is_held
   pub entries : (entry : Entry) → a.entry_put entry → b.entry_put entry
 
 -- The same of each unit of a partition.
@@ -40,7 +48,7 @@ pub record UnitsGrow (a b : UnitsSeen) : Type 0 where
   pub units : (unit : ℕ) → UnitGrows (a.of_unit unit) (b.of_unit unit)
 
 pub unit_still : (seen : UnitSeen) → UnitGrows seen seen
-unit_still seen = record { pages = refl; values = λ entry value is. is; fronts = λ page front is. is; entries = λ entry is. is }
+unit_still seen = record { pages = refl; values = λ entry value is. is; puts = λ entry value is. is; fronts = λ page front is. is; held = λ is. is; entries = λ entry is. is }
 
 pub unit_like : (o p : Option Pair) → p ≡ o → UnitGrows (unit_seen o) (unit_seen p)
 unit_like o p same = subst (λ (q : Option Pair). UnitGrows (unit_seen o) (unit_seen q)) (sym same) (unit_still (unit_seen o))
@@ -66,7 +74,7 @@ list_put_more a b more address list count is = subst (λ (o : Option ℕ). IfSom
       values = h.values;
       read = list_read_more a b more list count h.values h.read;
       taken = h.taken;
-      put = λ j value there. more.values (address / 4096 + j) value (h.put j value there);
+      put = λ j value there. more.puts (address / 4096 + j) value (h.put j value there);
     }
 
 list_untaken_more : (a b : UnitSeen) → UnitGrows a b → (address list count : ℕ)
@@ -104,6 +112,24 @@ untaken_more a b more rows.SendLogicalLan args is = tt
 untaken_more a b more rows.MulticastCtrl args is = tt
 untaken_more a b more rows.ChangeLogicalLanMac args is = tt
 
+-- what is held, is so
+busy_more : (a b : UnitSeen) → (a.is_held → b.is_held) → (row : Hcall) → WhyBusy a row → WhyBusy b row
+busy_more a b more rows.PutTce is = more is
+busy_more a b more rows.StuffTce is = more is
+busy_more a b more rows.PutTceIndirect is = more is
+busy_more a b more rows.GetTce is = tt
+busy_more a b more rows.SendCrq is = tt
+busy_more a b more rows.RegCrq is = tt
+busy_more a b more rows.FreeCrq is = tt
+busy_more a b more rows.EnableCrq is = tt
+busy_more a b more rows.CopyRdma is = tt
+busy_more a b more rows.RegisterLogicalLan is = tt
+busy_more a b more rows.FreeLogicalLan is = tt
+busy_more a b more rows.AddLogicalLanBuffer is = tt
+busy_more a b more rows.SendLogicalLan is = tt
+busy_more a b more rows.MulticastCtrl is = tt
+busy_more a b more rows.ChangeLogicalLanMac is = tt
+
 -- what a call did is there still
 done_more : (a b : UnitSeen) → UnitGrows a b → (row : Hcall) (args : List ℕ) (value : ℕ) → IsDone a row args value → IsDone b row args value
 done_more a b more rows.GetTce [] value is = tt
@@ -111,7 +137,7 @@ done_more a b more rows.GetTce (address ∷ []) value is = more.values _ value i
 done_more a b more rows.GetTce (address ∷ other ∷ others) value is = tt
 done_more a b more rows.PutTce [] value is = tt
 done_more a b more rows.PutTce (address ∷ []) value is = tt
-done_more a b more rows.PutTce (address ∷ put ∷ []) value is = more.values _ put is
+done_more a b more rows.PutTce (address ∷ put ∷ []) value is = more.puts _ put is
 done_more a b more rows.PutTce (address ∷ put ∷ other ∷ others) value is = tt
 done_more a b more rows.SendCrq [] value is = tt
 done_more a b more rows.SendCrq (high ∷ []) value is = tt
@@ -120,7 +146,7 @@ done_more a b more rows.SendCrq (high ∷ low ∷ other ∷ others) value is = t
 done_more a b more rows.StuffTce [] value is = tt
 done_more a b more rows.StuffTce (address ∷ []) value is = tt
 done_more a b more rows.StuffTce (address ∷ put ∷ []) value is = tt
-done_more a b more rows.StuffTce (address ∷ put ∷ count ∷ []) value is = λ j less. more.values _ put (is j less)
+done_more a b more rows.StuffTce (address ∷ put ∷ count ∷ []) value is = λ j less. more.puts _ put (is j less)
 done_more a b more rows.StuffTce (address ∷ put ∷ count ∷ other ∷ others) value is = tt
 done_more a b more rows.PutTceIndirect [] value is = tt
 done_more a b more rows.PutTceIndirect (address ∷ []) value is = tt
@@ -175,6 +201,7 @@ pub unit_more : (a b : UnitSeen) → UnitGrows a b → (row : Hcall) (args : Lis
 unit_more a b more row args outcome is = record {
   parameter = subst (λ (pages : Option ℕ). IfSome (is_taken row pages args) (λ taken. (outcome ≡ outcomes.Code codes.Parameter) ↔ (taken ≡ false))) (sym more.pages) is.parameter;
   refused = λ e. untaken_more a b more row args (is.refused e);
+  busy = λ e. busy_more a b more.held row (is.busy e);
   done = done_if (IsDone a row args) (IsDone b row args) (λ value. done_more a b more row args value) outcome is.done;
 }
 
@@ -198,7 +225,7 @@ call_more a b more number args outcome is = record {
   here = here_more a b more args outcome (row_of number) is.here;
 }
 
-said_more : (a b : UnitsSeen) → UnitsGrow a b → (verb : Verb) (outcome : Outcome) → IsSaidOf a verb outcome → IsSaidOf b verb outcome
+pub said_more : (a b : UnitsSeen) → UnitsGrow a b → (verb : Verb) (outcome : Outcome) → IsSaidOf a verb outcome → IsSaidOf b verb outcome
 said_more a b more verbs.Login outcome is = tt
 said_more a b more verbs.Reset outcome is = tt
 said_more a b more verbs.Logout outcome is = tt
@@ -224,8 +251,11 @@ said_more a b more (verbs.Tce entry page readable writable) outcome is = tt
 said_more a b more (verbs.Hcall number args) outcome is = call_more a b more number args outcome is
 said_more a b more verbs.Fail outcome is = tt
 
-pub calls_more : (a b : UnitsSeen) (lines : List Line) (rows : List LogRow) → UnitsGrow a b → CallsSaid a lines rows → CallsSaid b lines rows
-calls_more a b lines rows more is i line row there at = said_more a b more line.verb row.outcome (is i line row there at)
+pub calls_more : (a b : ℕ → UnitsSeen) (lines : List Line) (rows : List LogRow)
+    → ((i : ℕ) (line : Line) (row : LogRow) → slice_get lines i ≡ Some line → slice_get rows i ≡ Some row → UnitsGrow (a line.number) (b line.number))
+    → CallsSaid a lines rows → CallsSaid b lines rows
+calls_more a b lines rows more is i line row there at =
+    said_more (a line.number) (b line.number) (more i line row there at) line.verb row.outcome (is i line row there at)
 
 -- a unit's window is of as many pages while its driver stays
 pages_keep : (m n : ℕ) (old new : Option Driver) → n ≡ m → KeepsDriver old new → option_map (λ (driver : Driver). n) new ≡ option_map (λ (driver : Driver). m) old
@@ -233,34 +263,54 @@ pages_keep m n None new same keeps = ap (option_map (λ (driver : Driver). n)) k
 pages_keep m n (Some old) None same keeps = absurd keeps
 pages_keep m n (Some old) (Some new) same keeps = ap Some same
 
-pair_grows : (o p : Option Pair) → (o ≡ None → p ≡ None) → ((pair : Pair) → o ≡ Some pair → IsSomeAnd p (Stays pair))
-    → ((pair : Pair) → o ≡ Some pair → IsSomeAnd p (λ later. Sees (seen_at pair) (seen_at later))) → UnitGrows (unit_seen o) (unit_seen p)
-pair_grows None p none stays sees = unit_like None p (none refl)
-pair_grows (Some old) None none stays sees = absurd (stays old refl)
-pair_grows (Some old) (Some new) none stays sees =
-    let more = sees old refl in
-    record {
-      pages = pages_keep (length old.window.pages) (length new.window.pages) old.driver new.driver (stays old refl).pages (stays old refl).driver;
-      values = more.values;
-      fronts = more.fronts;
-      entries = more.entries;
-    }
+-- each client of a pair has strokes of its own behind those of each page of its region that are of later lines than this one alone
+abbrev pub LaysLater : (number : ℕ) → (old new : List Pair) → Type 0
+LaysLater number old new = (k : ℕ) (before after : Pair) → slice_get old k ≡ Some before → slice_get new k ≡ Some after → (page : ℕ)
+    → IsFrontOn before.window.unit (λ m. number < m) (strokes_at before.window.pages page) (strokes_at after.window.pages page)
 
--- what turns leave of what is seen of a partition's units
-pub seen_grows : (partition : ℕ) (seats : List Seat) (old new : List Pair) → AllStay old new → UnitsGrow (seen_from partition seats old) (seen_from partition seats new)
-seen_grows partition seats old new stay = record { place = refl; units = λ unit. at (slice_get seats unit) }
+pair_then : (number : ℕ) (old new : Pair) → Stays old new → Sees (seen_at old) (seen_at new) → KeepsEntries old new
+    → ((page : ℕ) → IsFrontOn old.window.unit (λ m. number < m) (strokes_at old.window.pages page) (strokes_at new.window.pages page))
+    → UnitGrows (unit_then number (Some old)) (unit_then number (Some new))
+pair_then number old new stays sees keeps lays = record {
+  pages = pages_keep (length old.window.pages) (length new.window.pages) old.driver new.driver stays.pages stays.driver;
+  values = sees.values;
+  puts = λ entry value is. behind_more ((known_of old.window).values entry) ((known_of new.window).values entry) value (keeps entry) is;
+  fronts = λ page front is.
+      subst (λ (id : UnitId). IsMoment id number front (strokes_at new.window.pages page) × IsSome front) (sym stays.client_unit)
+      (then_more old.window.unit number front (strokes_at old.window.pages page) (strokes_at new.window.pages page) (lays page) is);
+  held = λ some none. some (sym stays.held ∙ none);
+  entries = sees.entries;
+}
+
+-- what turns leave of what was seen of a partition's units as a line ended
+pub then_grows : (number partition : ℕ) (seats : List Seat) (old new : List Pair) → AllStay old new → LaysLater number old new
+    → UnitsGrow (seen_then number partition seats old) (seen_then number partition seats new)
+then_grows number partition seats old new stay lays = record { place = refl; units = λ unit. at (slice_get seats unit) }
   where
-    gone : (k : ℕ) (o : Option Pair) → slice_get new k ≡ o → slice_get old k ≡ None → o ≡ None
-    gone k None there none = refl
-    gone k (Some pair) there none =
+    gone : (k : ℕ) (pair : Pair) → slice_get new k ≡ Some pair → slice_get old k ≡ None → ⊥
+    gone k pair there none =
         let from = came_from Stays old new stay.count stay.each k pair there in
-        absurd (apart from.0 (sym none ∙ from.1))
+        apart from.0 (sym none ∙ from.1)
       where
         apart : (pair : Pair) → None ≡ Some pair → ⊥
         apart pair e = cc
 
-    at : (seat : Option Seat) → UnitGrows (unit_seen (pair_of old seat)) (unit_seen (pair_of new seat))
+    pair_grows : (k : ℕ) (o p : Option Pair) → slice_get old k ≡ o → slice_get new k ≡ p → IfSome o (λ before. IsSomeAnd p (Stays before))
+        → IfSome o (λ before. IsSomeAnd p (λ later. Sees (seen_at before) (seen_at later))) → IfSome o (λ before. IsSomeAnd p (KeepsEntries before)) → UnitGrows (unit_then number o) (unit_then number p)
+    pair_grows k None None was is stays sees keeps = unit_still no_client
+    pair_grows k None (Some after) was is stays sees keeps = absurd (gone k after is was)
+    pair_grows k (Some before) None was is stays sees keeps = absurd stays
+    pair_grows k (Some before) (Some after) was is stays sees keeps = pair_then number before after stays sees keeps (lays k before after was is)
+
+    if_there : (P : Pair → Type 0) (o : Option Pair) → ((pair : Pair) → o ≡ Some pair → P pair) → IfSome o P
+    if_there P None f = tt
+    if_there P (Some pair) f = f pair refl
+
+    at : (seat : Option Seat) → UnitGrows (unit_then number (pair_of old seat)) (unit_then number (pair_of new seat))
     at None = unit_still no_client
     at (Some sits.Server) = unit_still no_client
     at (Some sits.Port) = unit_still no_client
-    at (Some (sits.Client k)) = pair_grows (slice_get old k) (slice_get new k) (gone k (slice_get new k) refl) (stay.each k) (stay.sees k)
+    at (Some (sits.Client k)) =
+        pair_grows k (slice_get old k) (slice_get new k) refl refl (if_there (λ before. IsSomeAnd (slice_get new k) (Stays before)) (slice_get old k) (stay.each k))
+        (if_there (λ before. IsSomeAnd (slice_get new k) (λ later. Sees (seen_at before) (seen_at later))) (slice_get old k) (stay.sees k))
+        (if_there (λ before. IsSomeAnd (slice_get new k) (KeepsEntries before)) (slice_get old k) (stay.values k))

@@ -91,18 +91,19 @@ fails_no_call (verbs.Hcall number args) is = absurd (cc)
 fails_no_call verbs.Fail is = refl
 
 -- the records before the first line, and one more, of the line that ended
-pub called_none : (seen : UnitsSeen) (lines : List Line) → CallsSaid seen lines []
+pub called_none : (seen : ℕ → UnitsSeen) (lines : List Line) → CallsSaid seen lines []
 called_none seen lines i line row found at = absurd (no_row row at)
 
-pub called_one : (seen : UnitsSeen) (lines : List Line) (records : List LogRow) (line : Line) (row : LogRow) → slice_get lines (length records) ≡ Some line
-    → CallsSaid seen lines records → IsSaidOf seen line.verb row.outcome → CallsSaid seen lines (records ++ row ∷ [])
+pub called_one : (seen : ℕ → UnitsSeen) (lines : List Line) (records : List LogRow) (line : Line) (row : LogRow) → slice_get lines (length records) ≡ Some line
+    → CallsSaid seen lines records → IsSaidOf (seen line.number) line.verb row.outcome → CallsSaid seen lines (records ++ row ∷ [])
 called_one seen lines records line row found said last i l r there at = by (row_at records row r i at)
   where
-    by : (slice_get records i ≡ Some r) ⊎ ((i ≡ length records) × (r ≡ row)) → IsSaidOf seen l.verb r.outcome
+    by : (slice_get records i ≡ Some r) ⊎ ((i ≡ length records) × (r ≡ row)) → IsSaidOf (seen l.number) l.verb r.outcome
     by (inl h) = said i l r there h
     by (inr h) =
         let same : l ≡ line = some_is l line (sym there ∙ (ap (slice_get lines) h.0 ∙ found)) in
-        subst (λ (x : LogRow). IsSaidOf seen l.verb x.outcome) (sym h.1) (subst (λ (x : Line). IsSaidOf seen x.verb row.outcome) (sym same) last)
+        subst (λ (x : LogRow). IsSaidOf (seen l.number) l.verb x.outcome) (sym h.1)
+        (subst (λ (x : Line). IsSaidOf (seen x.number) x.verb row.outcome) (sym same) last)
 
 -- no row gives a value with Parameter
 pub no_value : (row : Hcall) → gives_value row codes.Parameter ≡ false

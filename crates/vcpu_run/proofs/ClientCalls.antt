@@ -1,5 +1,5 @@
 -- What a raw call returns at a client's pair: what its window and its end answered.
-use Rattle.std.proofs.Common.{◌≡◌, ◌↔◌, ◌∙◌, ◌<◌, ◌+◌, ◌/◌, ◌==◌, ◌++◌, ℕ, zero, suc, nat_le, replicate, Bool, true, false, cond, List, [], ◌∷◌, Option, Some, None, Result, Ok, Err, IfOk, IfSome, Contains, length, slice_get, refl, sym, ap, subst, arith}
+use Rattle.std.proofs.Common.{◌≡◌, ◌≢◌, ◌↔◌, ◌∙◌, ◌<◌, ◌+◌, ◌/◌, ◌==◌, ◌++◌, ℕ, zero, suc, nat_le, replicate, Bool, true, false, cond, List, [], ◌∷◌, Option, Some, None, Result, Ok, Err, IfOk, IfSome, IsSome, Contains, drop, length, slice_get, refl, sym, ap, subst, arith}
 use Rattle.std.specs.Borrow.{GName}
 use Rattle.std.specs.Option.{option_map}
 use Rattle.std.proofs.lemmas.Bool.{eq-eqb}
@@ -13,11 +13,10 @@ use Rattle.vio_num.specs.declared.hypervisor.Hrc.TheVariants as codes
 use Rattle.vio_num.specs.declared.memory.NoMemory.{NoMemory}
 use Rattle.crq_ring.specs.declared.rows.PipeRow.{PipeRow}
 use Rattle.crq_session.specs.Answered.{Sends}
-use Rattle.page_slots.specs.Stroke.{StrokeValue}
 use Rattle.crq_session.specs.EndState.{EndPlace, EndState, OnlySends}
 use Rattle.crq_session.specs.PlainState.{end_of}
 use Rattle.tce_window.specs.Answers.{gives, is_entry}
-use Rattle.tce_window.specs.PortState.{PortState, Puts}
+use Rattle.tce_window.specs.PortState.{PortState, Puts, Reads}
 use Rattle.tce_window.specs.Puts.{put_into, takes, takes_all}
 use Rattle.hcall_table.specs.Asked.{bare}
 use Rattle.hcall_table.specs.Rows.{IsAnswer, may_answer}
@@ -27,8 +26,8 @@ use Rattle.unit_region.specs.EntryAnswers.{AnswersEntry, ReadsList, is_list, put
 use Rattle.unit_region.specs.EntryRows.{answer_by, entry_row}
 use Rattle.unit_region.specs.declared.entry_calls.EntryCall.{EntryCall}
 use Rattle.unit_region.specs.declared.entry_calls.EntryCall.TheVariants as entries
-use Rattle.unit_region.specs.RegionLines.{AreRead, region_once}
-use Rattle.unit_region.proofs.Laws.{once_read, read_there}
+use Rattle.unit_region.specs.InUse.{BusyFor}
+use Rattle.unit_region.specs.RegionLines.{AreRead, RegionSeen}
 use Rattle.vcpu_run.specs.declared.client_call.QueueCall.{QueueCall}
 use Rattle.vcpu_run.specs.declared.client_call.QueueCall.TheVariants as queues
 use Rattle.vcpu_run.specs.declared.driver.Driver.{Driver}
@@ -37,6 +36,7 @@ use Rattle.vcpu_run.specs.CallRows.{entry_arguments, queue_arguments, queue_row}
 use Rattle.vcpu_run.specs.CallsAnswered.{AnswersQueue, IsListPut, IsListRead, IsListUntaken, IsReturned, SendsOne, is_taken, no_client, unit_seen}
 use Rattle.vcpu_run.specs.LinesShow.{IsPutBy}
 use Rattle.vcpu_run.proofs.LinesShown.{contains_first, end_sees}
+use Rattle.vcpu_run.proofs.ValuesBehind.{behind_put}
 
 -- what is at a place of a list is in it
 has_at : {X : Type 0} (xs : List X) (i : ℕ) (x : X) → slice_get xs i ≡ Some x → Contains xs x
@@ -69,12 +69,17 @@ got_there n address value values code is good =
     let got = subst (λ (c : Hrc). gives n values address (answer_by c value)) good is in
     has_at (values (address / 4096)) got.1.0 value got.1.1.shown
 
-value_there : (old new : PortState) (address value : ℕ) (code : Hrc) → Puts old address (put_if code value) new → code ≡ codes.Success → Contains (new.values (address / 4096)) value
-value_there old new address value code puts good =
+-- each entry had its first value
+abbrev pub HasFirst : PortState → Type 0
+HasFirst port = (entry : ℕ) → IsSome (slice_get (port.values entry) 0)
+
+value_there : (old new : PortState) (address value : ℕ) (code : Hrc) → HasFirst old → Puts old address (put_if code value) new → code ≡ codes.Success
+    → Contains (drop 1 (new.values (address / 4096))) value
+value_there old new address value code first puts good =
     let is = subst (λ (c : Hrc). Puts old address (put_if c value) new) good puts in
     let entry : ℕ = address / 4096 in
     let put : new.values entry ≡ old.values entry ++ value ∷ [] = is.values entry ∙ ap (λ b. old.values entry ++ cond b (value ∷ []) []) (eq-eqb entry entry refl) in
-    subst (λ (list : List ℕ). Contains list value) (sym put) (Contains-append_right (old.values entry) (value ∷ []) value (contains_first value []))
+    behind_put (old.values entry) (new.values entry) (value ∷ []) value (first entry) put (contains_first value [])
 
 -- each of the entries that a list of one value names takes it
 taken_at : (entry value count j : ℕ) → j < count → put_into entry (replicate count value) (entry + j) ≡ value ∷ []
@@ -88,11 +93,12 @@ taken_at entry value (suc count) (suc j) less =
     apart true e = absurd (grind (arith, nat_tests, e))
     apart false e = refl
 
-each_there : (old new : PortState) (address value count j : ℕ) → Puts old address (replicate count value) new → j < count → Contains (new.values (address / 4096 + j)) value
-each_there old new address value count j is less =
+each_there : (old new : PortState) (address value count j : ℕ) → HasFirst old → Puts old address (replicate count value) new → j < count
+    → Contains (drop 1 (new.values (address / 4096 + j))) value
+each_there old new address value count j first is less =
     let entry : ℕ = address / 4096 + j in
     let put : new.values entry ≡ old.values entry ++ value ∷ [] = is.values entry ∙ ap (λ list. old.values entry ++ list) (taken_at (address / 4096) value count j less) in
-    subst (λ (list : List ℕ). Contains list value) (sym put) (Contains-append_right (old.values entry) (value ∷ []) value (contains_first value []))
+    behind_put (old.values entry) (new.values entry) (value ∷ []) value (first entry) put (contains_first value [])
 
 -- each of the values of a list is put into its entry
 put_there : (entry : ℕ) (list : List ℕ) (j value : ℕ) → slice_get list j ≡ Some value → put_into entry list (entry + j) ≡ value ∷ []
@@ -110,62 +116,67 @@ put_there entry (first ∷ list) (suc j) value there =
     apart true e = absurd (grind (arith, nat_tests, e))
     apart false e = refl
 
-item_there : (old new : PortState) (address : ℕ) (list : List ℕ) (j value : ℕ) → Puts old address list new → slice_get list j ≡ Some value → Contains (new.values (address / 4096 + j)) value
-item_there old new address list j value is there =
+item_there : (old new : PortState) (address : ℕ) (list : List ℕ) (j value : ℕ) → HasFirst old → Puts old address list new → slice_get list j ≡ Some value
+    → Contains (drop 1 (new.values (address / 4096 + j))) value
+item_there old new address list j value first is there =
     let entry : ℕ = address / 4096 + j in
     let put : new.values entry ≡ old.values entry ++ value ∷ [] = is.values entry ∙ ap (λ list. old.values entry ++ list) (put_there (address / 4096) list j value there) in
-    subst (λ (list : List ℕ). Contains list value) (sym put) (Contains-append_right (old.values entry) (value ∷ []) value (contains_first value []))
+    behind_put (old.values entry) (new.values entry) (value ∷ []) value (first entry) put (contains_first value [])
 
--- a list that was read in the unit's region, whose pages have these strokes then
-list_read : (port : PortState) (strokes : ℕ → Option (List StrokeValue)) (list count : ℕ) (read : ReadsList port list count) → port.strokes ≡ strokes
-    → IsListRead (region_once strokes) list count read.values
-list_read port strokes list count read laid = record {
+-- a list that was read in the unit's region
+list_read : (port : PortState) (region : RegionSeen) (list count : ℕ) (read : ReadsList port list count)
+    → ((bytes : List ℕ) → Reads port list bytes → AreRead region list bytes) → IsListRead region list count read.values
+list_read port region list count read reads = record {
   count_is = read.count_is;
   bytes = read.bytes;
   spelled = read.spelled;
-  read = λ some. subst (λ (s : ℕ → Option (List StrokeValue)). AreRead (region_once s) list read.bytes) laid (once_read port.strokes list read.bytes (read_there port list read.bytes (read.read some)));
+  read = λ some. reads read.bytes (read.read some);
 }
 
 -- a call on the entries of a unit's window, of so many pages, which has these values then
-pub entry_seen : {X : Type 0} (old new : PortState) (n : ℕ) (values : ℕ → List ℕ) (strokes : ℕ → Option (List StrokeValue)) (put : Entry → Type 0) (slot : Option X) (call : EntryCall) (returned : Returned)
-    → old.place.size ≡ n → new.values ≡ values → new.strokes ≡ strokes → IsAnswer (entry_row call) returned → AnswersEntry old new call returned
-    → IsReturned (record { pages = option_map (λ (x : X). n) slot; value_at = λ entry value. Contains (values entry) value; region = region_once strokes; entry_put = put })
+pub entry_seen : {X : Type 0} (old new : PortState) (n : ℕ) (values : ℕ → List ℕ) (region : RegionSeen) (held : Type 0) (put : Entry → Type 0) (slot : Option X) (call : EntryCall) (returned : Returned)
+    → old.place.size ≡ n → HasFirst old → new.values ≡ values → ((at : ℕ) (bytes : List ℕ) → Reads new at bytes → AreRead region at bytes) → (returned.code ≡ codes.Busy → held)
+    → IsAnswer (entry_row call) returned → AnswersEntry old new call returned
+    → IsReturned (record { pages = option_map (λ (x : X). n) slot; value_at = λ entry value. Contains (values entry) value; put_at = λ entry value. Contains (drop 1 (values entry)) value; region = region; is_held = held; entry_put = put })
     (entry_row call) (entry_arguments call) returned
-entry_seen {X} old new n values strokes put slot (entries.Get address) returned size same laid answer is =
+entry_seen {X} old new n values region held put slot (entries.Get address) returned size first same reads busy answer is =
     let given : gives n values address (answer_by returned.code returned.r4) =
     subst (λ m. gives m values address (answer_by returned.code returned.r4)) size
     (subst (λ (v : ℕ → List ℕ). gives old.place.size v address (answer_by returned.code returned.r4)) same is) in
-    record { parameter = at given slot; refused = λ e. tt; done = got_there n address returned.r4 values returned.code given }
+    record { parameter = at given slot; refused = λ e. tt; busy = λ e. tt; done = got_there n address returned.r4 values returned.code given }
   where
     at : gives n values address (answer_by returned.code returned.r4) → (o : Option X)
         → IfSome (is_taken rows.GetTce (option_map (λ (x : X). n) o) (address ∷ [])) (λ taken. (returned.code ≡ codes.Parameter) ↔ (taken ≡ false))
     at given None = tt
     at given (Some x) = get_parameter n address returned.r4 values returned.code answer.code given
-entry_seen {X} old new n values strokes put slot (entries.Put address value) returned size same laid answer is =
+entry_seen {X} old new n values region held put slot (entries.Put address value) returned size first same reads busy answer is =
     record {
       parameter = at slot;
       refused = λ e. tt;
-      done = λ good. subst (λ (v : ℕ → List ℕ). Contains (v (address / 4096)) value) same (value_there old new address value returned.code is.put good);
+      busy = busy;
+      done = λ good. subst (λ (v : ℕ → List ℕ). Contains (drop 1 (v (address / 4096))) value) same (value_there old new address value returned.code first is.put good);
     }
   where
     at : (o : Option X)
         → IfSome (is_taken rows.PutTce (option_map (λ (x : X). n) o) (address ∷ value ∷ [])) (λ taken. (returned.code ≡ codes.Parameter) ↔ (taken ≡ false))
     at None = tt
     at (Some x) = subst (λ m. (returned.code ≡ codes.Parameter) ↔ (takes m address value ≡ false)) size is.parameter
-entry_seen {X} old new n values strokes put slot (entries.Stuff address value count) returned size same laid answer is =
+entry_seen {X} old new n values region held put slot (entries.Stuff address value count) returned size first same reads busy answer is =
     record {
       parameter = at slot;
       refused = λ e. tt;
-      done = λ good j less. subst (λ (v : ℕ → List ℕ). Contains (v (address / 4096 + j)) value) same (each_there old new address value count j (is.put good) less);
+      busy = busy;
+      done = λ good j less. subst (λ (v : ℕ → List ℕ). Contains (drop 1 (v (address / 4096 + j))) value) same (each_there old new address value count j first (is.put good) less);
     }
   where
     at : (o : Option X)
         → IfSome (is_taken rows.StuffTce (option_map (λ (x : X). n) o) (address ∷ value ∷ count ∷ [])) (λ taken. (returned.code ≡ codes.Parameter) ↔ (taken ≡ false))
     at None = tt
     at (Some x) = subst (λ m. (returned.code ≡ codes.Parameter) ↔ (takes_all m address (replicate count value) ≡ false)) size is.parameter
-entry_seen {X} old new n values strokes put slot (entries.PutList address list count) returned size same laid answer is = record {
+entry_seen {X} old new n values region held put slot (entries.PutList address list count) returned size first same reads busy answer is = record {
   parameter = at slot;
   refused = λ e. untaken e slot;
+  busy = busy;
   done = λ good. put_at (is.put good) slot;
 }
   where
@@ -179,33 +190,41 @@ entry_seen {X} old new n values strokes put slot (entries.PutList address list c
     at (Some x) = by (is_list n list count) refl
 
     untaken : returned.code ≡ codes.Parameter → (o : Option X)
-        → IfSome (option_map (λ (x : X). n) o) (λ pages. is_list pages list count ≡ true → IsListUntaken (region_once strokes) pages address list count)
+        → IfSome (option_map (λ (x : X). n) o) (λ pages. is_list pages list count ≡ true → IsListUntaken region pages address list count)
     untaken e None = tt
     untaken e (Some x) = λ lies.
         let refused = is.refused e (subst (λ m. is_list m list count ≡ true) (sym size) lies) in
         record {
           values = refused.0.values;
-          read = list_read new strokes list count refused.0 laid;
+          read = list_read new region list count refused.0 (reads list);
           refused = subst (λ m. takes_all m address refused.0.values ≡ false) size refused.1;
         }
 
     put_at : (read : ReadsList new list count) × (takes_all old.place.size address read.values ≡ true) × Puts old address read.values new → (o : Option X)
         → IfSome (option_map (λ (x : X). n) o) (λ pages. IsListPut
-        (record { pages = option_map (λ (x : X). n) slot; value_at = λ entry value. Contains (values entry) value; region = region_once strokes; entry_put = put }) pages address list count)
+        (record { pages = option_map (λ (x : X). n) slot; value_at = λ entry value. Contains (values entry) value; put_at = λ entry value. Contains (drop 1 (values entry)) value; region = region; is_held = held; entry_put = put }) pages address list count)
     put_at both None = tt
     put_at both (Some x) = record {
       values = both.0.values;
-      read = list_read new strokes list count both.0 laid;
+      read = list_read new region list count both.0 (reads list);
       taken = subst (λ m. takes_all m address both.0.values ≡ true) size both.1;
-      put = λ j value there. subst (λ (v : ℕ → List ℕ). Contains (v (address / 4096 + j)) value) same (item_there old new address both.0.values j value both.2 there);
+      put = λ j value there. subst (λ (v : ℕ → List ℕ). Contains (drop 1 (v (address / 4096 + j))) value) same (item_there old new address both.0.values j value first both.2 there);
     }
 
-pub entry_seen_ok : {X : Type 0} (old new : PortState) (n : ℕ) (values : ℕ → List ℕ) (strokes : ℕ → Option (List StrokeValue)) (put : Entry → Type 0) (slot : Option X) (call : EntryCall) (result : Result Returned NoMemory)
-    → old.place.size ≡ n → new.values ≡ values → new.strokes ≡ strokes → IfOk result (IsAnswer (entry_row call)) → IfOk result (AnswersEntry old new call)
-    → IfOk result (IsReturned (record { pages = option_map (λ (x : X). n) slot; value_at = λ entry value. Contains (values entry) value; region = region_once strokes; entry_put = put })
+pub entry_seen_ok : {X : Type 0} (old new : PortState) (n : ℕ) (values : ℕ → List ℕ) (region : RegionSeen) (held : Type 0) (put : Entry → Type 0) (slot : Option X) (call : EntryCall) (result : Result Returned NoMemory)
+    → old.place.size ≡ n → HasFirst old → new.values ≡ values → ((at : ℕ) (bytes : List ℕ) → Reads new at bytes → AreRead region at bytes)
+    → IfOk result (λ returned. returned.code ≡ codes.Busy → held) → IfOk result (IsAnswer (entry_row call)) → IfOk result (AnswersEntry old new call)
+    → IfOk result (IsReturned (record { pages = option_map (λ (x : X). n) slot; value_at = λ entry value. Contains (values entry) value; put_at = λ entry value. Contains (drop 1 (values entry)) value; region = region; is_held = held; entry_put = put })
     (entry_row call) (entry_arguments call))
-entry_seen_ok {X} old new n values strokes put slot call (Ok returned) size same laid answer is = entry_seen old new n values strokes put slot call returned size same laid answer is
-entry_seen_ok {X} old new n values strokes put slot call (Err memory) size same laid answer is = tt
+entry_seen_ok {X} old new n values region held put slot call (Ok returned) size first same reads busy answer is =
+    entry_seen old new n values region held put slot call returned size first same reads busy answer is
+entry_seen_ok {X} old new n values region held put slot call (Err memory) size first same reads busy answer is = tt
+
+-- what is in use of a window that nobody else has a hand in is held
+pub in_use_held : (old new : PortState) (result : Result Returned NoMemory) → new.held_count ≡ old.held_count → IfOk result (λ returned. BusyFor false old new returned.code)
+    → IfOk result (λ returned. returned.code ≡ codes.Busy → new.held_count ≢ 0)
+in_use_held old new (Ok returned) kept busy = λ e none. (busy e).held refl (sym kept ∙ none)
+in_use_held old new (Err memory) kept busy = tt
 
 -- a first byte below 0x80
 le_false : (n : ℕ) → nat_le 0x80 n ≡ false → n < 0x80
@@ -221,9 +240,9 @@ false_le n less = at (nat_le 0x80 n) refl
 -- a call on a client's queue, as its end answers
 pub client_queue : (pair : Pair) (lenders : List GName) (first : Bool) (call : QueueCall) (code : Hrc) (driver : Driver) → first ≡ false → pair.driver ≡ Some driver
     → AnswersQueue false (end_of lenders pair.link first) call code → IsReturned (unit_seen (Some pair)) (queue_row call) (queue_arguments call) (bare code)
-client_queue pair lenders first (queues.Register address bytes) code driver is has answer = record { parameter = tt; refused = λ e. tt; done = λ good. tt }
-client_queue pair lenders first queues.Free code driver is has answer = record { parameter = tt; refused = λ e. tt; done = λ good. tt }
-client_queue pair lenders first queues.Enable code driver is has answer = record { parameter = tt; refused = λ e. tt; done = λ good. tt }
+client_queue pair lenders first (queues.Register address bytes) code driver is has answer = record { parameter = tt; refused = λ e. tt; busy = λ e. tt; done = λ good. tt }
+client_queue pair lenders first queues.Free code driver is has answer = record { parameter = tt; refused = λ e. tt; busy = λ e. tt; done = λ good. tt }
+client_queue pair lenders first queues.Enable code driver is has answer = record { parameter = tt; refused = λ e. tt; busy = λ e. tt; done = λ good. tt }
 client_queue pair lenders first (queues.Send high low) code driver is has answer =
     let entry : Entry = record { high = high; low = low } in
     let taken : (code ≡ codes.Parameter) ↔ (nat_le 0x80 (first_byte entry) ≡ false) =
@@ -232,6 +251,7 @@ client_queue pair lenders first (queues.Send high low) code driver is has answer
       parameter = subst (λ (o : Option Driver). IfSome (is_taken rows.SendCrq (option_map (λ (driver : Driver). length pair.window.pages) o) (high ∷ low ∷ []))
           (λ taken. (code ≡ codes.Parameter) ↔ (taken ≡ false))) (sym has) taken;
       refused = λ e. tt;
+      busy = λ e. tt;
       done = λ good. (end_sees pair lenders first is).entries entry (answer.put good);
     }
 
@@ -240,28 +260,29 @@ good_parameter e = cc
 
 -- where there is no client
 pub absent_queue : (pair : Pair) (call : QueueCall) → pair.driver ≡ None → IsReturned (unit_seen (Some pair)) (queue_row call) (queue_arguments call) (bare codes.Parameter)
-absent_queue pair (queues.Register address bytes) none = record { parameter = tt; refused = λ e. tt; done = λ good. tt }
-absent_queue pair queues.Free none = record { parameter = tt; refused = λ e. tt; done = λ good. tt }
-absent_queue pair queues.Enable none = record { parameter = tt; refused = λ e. tt; done = λ good. tt }
+absent_queue pair (queues.Register address bytes) none = record { parameter = tt; refused = λ e. tt; busy = λ e. tt; done = λ good. tt }
+absent_queue pair queues.Free none = record { parameter = tt; refused = λ e. tt; busy = λ e. tt; done = λ good. tt }
+absent_queue pair queues.Enable none = record { parameter = tt; refused = λ e. tt; busy = λ e. tt; done = λ good. tt }
 absent_queue pair (queues.Send high low) none = record {
   parameter = subst (λ (o : Option Driver). IfSome (is_taken rows.SendCrq (option_map (λ (driver : Driver). length pair.window.pages) o) (high ∷ low ∷ []))
       (λ taken. (codes.Parameter ≡ codes.Parameter) ↔ (taken ≡ false))) (sym none) (λ e. refl, λ e. refl);
   refused = λ e. tt;
+  busy = λ e. tt;
   done = λ good. absurd (good_parameter good);
 }
 
 -- at a unit that is no client
 pub other_entry : (call : EntryCall) (returned : Returned) → IsReturned no_client (entry_row call) (entry_arguments call) returned
-other_entry (entries.Get address) returned = record { parameter = tt; refused = λ e. tt; done = λ good. tt }
-other_entry (entries.Put address value) returned = record { parameter = tt; refused = λ e. tt; done = λ good. tt }
-other_entry (entries.Stuff address value count) returned = record { parameter = tt; refused = λ e. tt; done = λ good j less. tt }
-other_entry (entries.PutList address list count) returned = record { parameter = tt; refused = λ e. tt; done = λ good. tt }
+other_entry (entries.Get address) returned = record { parameter = tt; refused = λ e. tt; busy = λ e. tt; done = λ good. tt }
+other_entry (entries.Put address value) returned = record { parameter = tt; refused = λ e. tt; busy = λ e. tt; done = λ good. tt }
+other_entry (entries.Stuff address value count) returned = record { parameter = tt; refused = λ e. tt; busy = λ e. tt; done = λ good j less. tt }
+other_entry (entries.PutList address list count) returned = record { parameter = tt; refused = λ e. tt; busy = λ e. tt; done = λ good. tt }
 
 pub other_queue : (call : QueueCall) → IsReturned no_client (queue_row call) (queue_arguments call) (bare codes.Parameter)
-other_queue (queues.Register address bytes) = record { parameter = tt; refused = λ e. tt; done = λ good. tt }
-other_queue queues.Free = record { parameter = tt; refused = λ e. tt; done = λ good. tt }
-other_queue queues.Enable = record { parameter = tt; refused = λ e. tt; done = λ good. tt }
-other_queue (queues.Send high low) = record { parameter = (λ e. refl, λ e. refl); refused = λ e. tt; done = λ good. tt }
+other_queue (queues.Register address bytes) = record { parameter = tt; refused = λ e. tt; busy = λ e. tt; done = λ good. tt }
+other_queue queues.Free = record { parameter = tt; refused = λ e. tt; busy = λ e. tt; done = λ good. tt }
+other_queue queues.Enable = record { parameter = tt; refused = λ e. tt; busy = λ e. tt; done = λ good. tt }
+other_queue (queues.Send high low) = record { parameter = (λ e. refl, λ e. refl); refused = λ e. tt; busy = λ e. tt; done = λ good. tt }
 
 -- an entry that an end sent
 pub sent_by : (shared : Bool) (old new : EndState) (entry : Entry) (number : ℕ) → OnlySends shared old new → Sends shared old entry new number → IsPutBy shared new entry

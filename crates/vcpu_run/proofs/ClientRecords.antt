@@ -1,5 +1,5 @@
 -- What turns leave of the records of clients: the strokes that these laid in their own regions, and what their lines said of them.
-use Rattle.std.proofs.Common.{◌≡◌, ◌∙◌, ◌⊎◌, inl, inr, ℕ, ◌<◌, ◌++◌, Bool, true, false, Err, List, [], ◌∷◌, Option, Some, None, IfOk, IsSomeAnd, Ok, Result, length, slice_get, slice_set, refl, sym, ap, subst, arith}
+use Rattle.std.proofs.Common.{◌≡◌, ◌∙◌, ◌⊎◌, inl, inr, ℕ, ◌<◌, ◌++◌, Bool, true, false, Err, List, [], ◌∷◌, Option, Some, None, IfOk, IsSome, IsSomeAnd, Ok, Result, length, slice_get, slice_set, refl, sym, ap, subst, arith}
 use Rattle.std.proofs.lemmas.Option.{slice_get_within}
 use Rattle.vio_num.specs.declared.hypervisor.Moved.{Moved}
 use Rattle.vio_num.specs.declared.memory.NoMemory.{NoMemory}
@@ -20,6 +20,7 @@ use Rattle.unit_region.proofs.Laws.{on_as, on_cases, with_none}
 use Rattle.vio_trace.specs.declared.rows.LogRow.{LogRow}
 use Rattle.lan_script.specs.Seats.{is_in_region}
 use Rattle.lan_script.proofs.Laws.{not_told}
+use Rattle.vcpu_run.specs.declared.driver.Driver.{Driver}
 use Rattle.vcpu_run.specs.declared.pair.Pair.{Pair}
 use Rattle.vcpu_run.specs.declared.script.Progress.{Progress}
 use Rattle.vcpu_run.specs.declared.script.Script.{Script}
@@ -27,7 +28,8 @@ use Rattle.vcpu_run.specs.declared.unit_seat.Seat.{Seat}
 use Rattle.vcpu_run.specs.declared.unit_seat.Seat.TheVariants as sits
 use Rattle.vcpu_run.specs.ClientMoments.{LineStepped, PairStepped, RegionStepped, SeatStepped, StepsInRegion}
 use Rattle.vcpu_run.specs.ClientStrokes.{AreBare, KeepsOwn, LineLays, LogsStrokes, NoneLay, PairLays, PairLaysNone, PairRecords}
-use Rattle.vcpu_run.specs.Moments.{AreInTurn, LinesTold}
+use Rattle.vcpu_run.specs.LinesRead.{ClientLines, LineRead}
+use Rattle.vcpu_run.specs.Moments.{AreInTurn}
 use Rattle.vcpu_run.specs.PortRegions.{IsCurrent, IsLogged}
 use Rattle.vcpu_run.specs.Ports.{unit_of}
 use Rattle.vcpu_run.specs.Scripts.{AreSeats}
@@ -36,7 +38,8 @@ use Rattle.vcpu_run.specs.ScriptTold.{SameClient, SameClients}
 use Rattle.vcpu_run.proofs.ClientsLay.{line_lays_none}
 use Rattle.vcpu_run.proofs.Crediting.{one_seat}
 use Rattle.vcpu_run.proofs.Driving.{get_set_same, some_is}
-use Rattle.vcpu_run.proofs.PortLines.{has_place, lines_fresh, lines_one, logged_less, logged_most, numbers_rise, moments_grown}
+use Rattle.vcpu_run.proofs.LinesRead.{client_fresh, client_grown, client_one}
+use Rattle.vcpu_run.proofs.PortLines.{has_place, logged_less, logged_most, numbers_rise}
 use Rattle.vcpu_run.proofs.PortLogged.{logged_last, logged_more}
 
 both_ways : (b : Bool) → b ≡ true → b ≡ false → ⊥
@@ -107,11 +110,11 @@ keeps_gains unit old new named keeps page =
 -- what was told is so of a region with more strokes, which are of no earlier line
 more_told : (lines : List Line) (rows : List LogRow) (unit : UnitId) (allowed : ℕ → Type 0) (old new : Pair) → length new.window.pages ≡ length old.window.pages
     → ((i : ℕ) (l : Line) (r : LogRow) → slice_get lines i ≡ Some l → slice_get rows i ≡ Some r → (m : ℕ) → allowed m → l.number < m) → Gains unit allowed old new
-    → LinesTold (strokes_at old.window.pages) (length old.window.pages) unit lines rows
-    → LinesTold (strokes_at new.window.pages) (length new.window.pages) unit lines rows
+    → ClientLines (strokes_at old.window.pages) (length old.window.pages) unit lines rows
+    → ClientLines (strokes_at new.window.pages) (length new.window.pages) unit lines rows
 more_told lines rows unit allowed old new size later gains told =
-    subst (λ n. LinesTold (strokes_at new.window.pages) n unit lines rows) (sym size)
-    (moments_grown (strokes_at old.window.pages) (strokes_at new.window.pages) (length old.window.pages) unit lines rows
+    subst (λ n. ClientLines (strokes_at new.window.pages) n unit lines rows) (sym size)
+    (client_grown (strokes_at old.window.pages) (strokes_at new.window.pages) (length old.window.pages) unit lines rows
     (λ i l r there has page.
     on_as unit allowed (λ m. l.number < m) (strokes_at old.window.pages page) (strokes_at new.window.pages page) (later i l r there has) (gains page)) told)
 
@@ -133,8 +136,8 @@ records_still lines rows at unit old new size gains is = record {
 pub logs_bare : (pairs : List Pair) (script : Script) → script.logs.items ≡ [] → AreBare pairs → LogsStrokes pairs script
 logs_bare pairs script none bare unit k pair here there named = record {
   logged = λ page stroke on own. absurd (bare k pair there page stroke on);
-  told = subst (λ (rows : List LogRow). LinesTold (strokes_at pair.window.pages) (length pair.window.pages) (unit_of script.partition unit) script.lines.now rows) (sym none)
-      (lines_fresh (strokes_at pair.window.pages) (length pair.window.pages) (unit_of script.partition unit) script.lines.now);
+  told = subst (λ (rows : List LogRow). ClientLines (strokes_at pair.window.pages) (length pair.window.pages) (unit_of script.partition unit) script.lines.now rows) (sym none)
+      (client_fresh (strokes_at pair.window.pages) (length pair.window.pages) (unit_of script.partition unit) script.lines.now);
 }
 
 pub logs_else : (old new : List Pair) (script : Script)
@@ -229,13 +232,18 @@ logs_waits old new script progress line did found turn reached are lays steps is
         at page stroke own on (inl there) = before_is.logged page stroke there own
         at page stroke own on (inr mine) = apart page stroke mine own on (is_in_region line.verb) refl
 
+some_driver : (P : Driver → Type 0) (o : Option Driver) → IsSomeAnd o P → IsSome o
+some_driver P None is = absurd is
+some_driver P (Some driver) is = refl
+
 -- the current line ended
 pub logs_ends : (old new : List Pair) (script ended : Script) (line : Line) (row : LogRow) → slice_get script.lines.now script.at ≡ Some line
     → AreInTurn script.lines.now script.logs.items script.at → length script.logs.items ≡ script.at → AreSeats script.partition script.seats.items old
     → LineLays script.seats.items line old new → LineStepped script.seats.items line old new (Ok (steps.Ends row.outcome))
+    → LineRead script.seats.items line old new row.outcome
     → ended.partition ≡ script.partition → ended.lines ≡ script.lines → ended.seats ≡ script.seats → ended.logs.items ≡ script.logs.items ++ row ∷ []
     → LogsStrokes old script → LogsStrokes new ended
-logs_ends old new script ended line row found turn reached are lays stepped partition lines seats logs is unit k after here' there named' =
+logs_ends old new script ended line row found turn reached are lays stepped answered partition lines seats logs is unit k after here' there named' =
     subst (λ (p : ℕ). PairRecords ended.lines.now ended.logs.items ended.at (unit_of p unit) after) (sym partition)
     (subst (λ ls. PairRecords ls.now ended.logs.items ended.at id after) (sym lines)
     (subst (λ (rows : List LogRow). PairRecords script.lines.now rows ended.at id after) (sym logs) (by (slice_get old k) refl (lays k after there))))
@@ -280,7 +288,7 @@ logs_ends old new script ended line row found turn reached are lays stepped part
     by None e h = absurd h
     by (Some before) e h = record {
       logged = λ page stroke on own. inl (now page stroke on own);
-      told = lines_one (strokes_at after.window.pages) (length after.window.pages) id script.lines.now script.logs.items line row next
+      told = client_one (strokes_at after.window.pages) (length after.window.pages) id script.lines.now script.logs.items line row next
           (more_told script.lines.now script.logs.items id (λ m. Mine × (m ≡ line.number)) before after h.pages later gains before_is.told)
           (record {
             earlier = λ page stroke on own. logged_most script.lines.now script.logs.items row script.at line id stroke.name.mark turn found reached (now page stroke on own);
@@ -291,7 +299,8 @@ logs_ends old new script ended line row found turn reached are lays stepped part
                   ((step own region).lays refl page);
               earlier = λ stroke on mine. before_it stroke.name.mark region (before_is.logged page stroke on mine);
             };
-          });
+          })
+          (λ own. answered k before after (ap (λ n. slice_get script.seats.items n) own ∙ here) e there (has_driver before e));
     }
       where
         was : before.window.unit ≡ id
@@ -302,6 +311,11 @@ logs_ends old new script ended line row found turn reached are lays stepped part
 
         before_is : PairRecords script.lines.now script.logs.items script.at id before
         before_is = is unit k before here e was
+
+        has_driver : (pair : Pair) → slice_get old k ≡ Some pair → IsSome pair.driver
+        has_driver pair at =
+            some_driver (λ driver. driver.unit ≡ record { partition = script.partition; unit = unit }) pair.driver
+            (subst (λ (o : Option Pair). IsSomeAnd o (λ (p : Pair). IsSomeAnd p.driver (λ driver. driver.unit ≡ record { partition = script.partition; unit = unit }))) at (are unit k here))
 
         step : line.unit ≡ unit → is_in_region line.verb ≡ true → StepsInRegion false line (known_of before.window) (known_of after.window) (steps.Ends row.outcome)
         step own region = stepped k (ap (λ n. slice_get script.seats.items n) own ∙ here) before after e there region
@@ -323,9 +337,9 @@ logs_ends old new script ended line row found turn reached are lays stepped part
 -- the same of a line that lays none, and is not one in the region
 pub logs_ends_none : (old new : List Pair) (script ended : Script) (line : Line) (row : LogRow) → slice_get script.lines.now script.at ≡ Some line
     → AreInTurn script.lines.now script.logs.items script.at → length script.logs.items ≡ script.at → AreSeats script.partition script.seats.items old
-    → NoneLay old new → is_in_region line.verb ≡ false
+    → NoneLay old new → is_in_region line.verb ≡ false → LineRead script.seats.items line old new row.outcome
     → ended.partition ≡ script.partition → ended.lines ≡ script.lines → ended.seats ≡ script.seats → ended.logs.items ≡ script.logs.items ++ row ∷ []
     → LogsStrokes old script → LogsStrokes new ended
-logs_ends_none old new script ended line row found turn reached are lays apart =
+logs_ends_none old new script ended line row found turn reached are lays apart answered =
     logs_ends old new script ended line row found turn reached are (line_lays_none script.seats.items line old new lays)
-    (line_apart script.seats.items line old new (Ok (steps.Ends row.outcome)) apart)
+    (line_apart script.seats.items line old new (Ok (steps.Ends row.outcome)) apart) answered

@@ -26,14 +26,15 @@ use Rattle.vcpu_run.specs.Lines.{IsOver}
 use Rattle.vcpu_run.specs.Machines.{AreScripts, IsOfPlan}
 use Rattle.vcpu_run.specs.Pairs.{AreOfOneHome}
 use Rattle.vcpu_run.specs.Ports.{unit_of}
-use Rattle.vcpu_run.specs.PortRegions.{IsLogged, LinesTold, strokes_shown}
+use Rattle.vcpu_run.specs.LinesRead.{ClientLines}
+use Rattle.vcpu_run.specs.PortRegions.{IsLogged, strokes_shown}
 use Rattle.vcpu_run.specs.Settled.{script_of}
 use Rattle.vcpu_run.specs.Shown.{pages_at, stroke_value, strokes_on}
 use Rattle.vcpu_run.specs.Units.{seats_of, unit_seat}
 use Rattle.vcpu_run.proofs.Following.{each_from_all}
 use Rattle.vcpu_run.proofs.FramesCarried.{seat_strokes}
 use Rattle.vcpu_run.proofs.Listed.{held}
-use Rattle.vcpu_run.proofs.PortLines.{moments_same}
+use Rattle.vcpu_run.proofs.LinesRead.{client_same}
 use Rattle.vcpu_run.proofs.Parts.{IsIn, each_in, in_slice}
 use Rattle.vcpu_run.proofs.PortsTold.{no_current, on_page}
 use Rattle.vcpu_run.proofs.RecordLaws.{lines_in}
@@ -66,7 +67,7 @@ clients_logged pairs scripts lan rows history grants copies partitions home are 
     seat_strokes pairs scripts lan rows history grants copies partitions home are windows of_plan seat pair.0.window inside window in
     let left : slice_get script.lines.now script.at ≡ None =
     slice_get_past script.lines.now script.at (each_in IsOver script scripts (in_slice scripts p script at.1) (each_from_all IsOver scripts over)) in
-    let records : PairRecords script.lines.now script.logs.items script.at id pair.0 = (credited p script at.1).1 client.unit server.unit pair.0 at.2 pair.1 who in
+    let records : PairRecords script.lines.now script.logs.items script.at id pair.0 = (credited p script at.1).1.strokes client.unit server.unit pair.0 at.2 pair.1 who in
     let logged : (page : ℕ) → page < pages_at partitions client → (stroke : StrokeValue) → Contains (map stroke_value (strokes_on trace client page)) stroke
     → stroke.name.who ≡ client → IsLogged id script.lines.now script.logs.items stroke.name.mark =
     λ page less stroke shown mine.
@@ -74,15 +75,15 @@ clients_logged pairs scripts lan rows history grants copies partitions home are 
     (records.logged page stroke
     (on_page (pages_at partitions client) page stroke (map stroke_value (strokes_on trace client page)) (strokes_at pair.0.window.pages page) less (same page) shown)
     (mine ∙ sym named)) in
-    let told : LinesTold (strokes_shown trace (pages_at partitions client) client) (pages_at partitions client) client script.lines.now script.logs.items =
-    subst (λ (unit : UnitId). LinesTold (strokes_shown trace (pages_at partitions client) client) (pages_at partitions unit) unit script.lines.now script.logs.items) named
-    (subst (λ n. LinesTold (strokes_shown trace (pages_at partitions client) client) n id script.lines.now script.logs.items) (sym pages)
-    (moments_same (strokes_at pair.0.window.pages) (strokes_shown trace (pages_at partitions client) client) (length pair.0.window.pages) id script.lines.now script.logs.items same records.told)) in
+    let told : ClientLines (strokes_shown trace (pages_at partitions client) client) (pages_at partitions client) client script.lines.now script.logs.items =
+    subst (λ (unit : UnitId). ClientLines (strokes_shown trace (pages_at partitions client) client) (pages_at partitions unit) unit script.lines.now script.logs.items) named
+    (subst (λ n. ClientLines (strokes_shown trace (pages_at partitions client) client) n id script.lines.now script.logs.items) (sym pages)
+    (client_same (strokes_at pair.0.window.pages) (strokes_shown trace (pages_at partitions client) client) (length pair.0.window.pages) id script.lines.now script.logs.items same records.told)) in
     record {
       logged = λ page less stroke shown mine.
           subst (λ (ls : List Line). IsLogged client ls (filter (λ (row : LogRow). row.partition == p) (flat_map logs_of scripts)) stroke.name.mark) (sym lines)
           (subst (λ (list : List LogRow). IsLogged client script.lines.now list stroke.name.mark) (sym (own_records pairs scripts lan p script are at.1))
           (subst (λ (unit : UnitId). IsLogged unit script.lines.now script.logs.items stroke.name.mark) named (logged page less stroke shown mine)));
-      told = subst (λ (ls : List Line). LinesTold (strokes_shown trace (pages_at partitions client) client) (pages_at partitions client) client ls (filter (λ (row : LogRow). row.partition == p) (flat_map logs_of scripts))) (sym lines)
-          (subst (λ (list : List LogRow). LinesTold (strokes_shown trace (pages_at partitions client) client) (pages_at partitions client) client script.lines.now list) (sym (own_records pairs scripts lan p script are at.1)) told);
+      told = subst (λ (ls : List Line). ClientLines (strokes_shown trace (pages_at partitions client) client) (pages_at partitions client) client ls (filter (λ (row : LogRow). row.partition == p) (flat_map logs_of scripts))) (sym lines)
+          (subst (λ (list : List LogRow). ClientLines (strokes_shown trace (pages_at partitions client) client) (pages_at partitions client) client script.lines.now list) (sym (own_records pairs scripts lan p script are at.1)) told);
     }

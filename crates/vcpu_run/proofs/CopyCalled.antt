@@ -17,7 +17,7 @@ no_window e = cc (e)
 
 copy_returned : (old : PartitionUnits) (unit : ℕ) (args : List ℕ) (returned : Returned) → returned.code ≡ codes.Parameter
     → IsReturned (seen_after old old unit) rows.CopyRdma args returned
-copy_returned old unit args returned is = record { parameter = (λ e. refl, λ e. is); refused = λ e. tt; done = λ e. tt }
+copy_returned old unit args returned is = record { parameter = (λ e. refl, λ e. is); refused = λ e. tt; busy = λ e. tt; done = λ e. tt }
 
 pub copy_called : (old : PartitionUnits) (unit : ℕ) (args : List ℕ) (returned : Returned) → returned.code ≡ codes.Parameter
     → AnswersCall (ask rows.CopyRdma unit args) old old (Ok returned)

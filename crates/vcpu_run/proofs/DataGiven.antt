@@ -35,12 +35,11 @@ use Rattle.unit_region.proofs.Laws.{front_of, touched}
 abbrev pub ShowsFronts : Seen → PortState → Type 0
 ShowsFronts seen port = (page : ℕ) → IsSome (port.strokes page) → seen.front_at page (port.strokes page)
 
--- what is known of a page is a front of what is known of it later
-pub front_grows : (shared : Bool) (old new : Option (List StrokeValue)) → Grows shared old new → IsSome old → IsFront old new
-front_grows shared None new grows some = absurd (cc (some))
-front_grows shared (Some old) None grows some = absurd grows
-front_grows true (Some old) (Some new) grows some = grows
-front_grows false (Some old) (Some new) grows some = subst (λ (list : List StrokeValue). IsFront (Some old) (Some list)) (sym grows) ([], sym (append-nil old))
+-- what is known of a page is what is known of it later, where nobody else lays strokes there
+front_same : (old new : Option (List StrokeValue)) → Grows false old new → IsSome old → old ≡ new
+front_same None new grows some = absurd (cc (some))
+front_same (Some old) None grows some = absurd grows
+front_same (Some old) (Some new) grows some = ap Some (sym grows)
 
 pub part_read : (seen : Seen) (port : PortState) (name : StrokeName) (at len : ℕ) (bytes : List ℕ) → ShowsFronts seen port → ReadsNamed name at len port bytes
     → IsPartRead seen name at len bytes
@@ -122,16 +121,17 @@ range_stale seen shared name range old new page fronts (inr later) = inr (record
 
 -- what is there at a window has what is known of its pages, and what was known of them before
 pub fronts_there : (shared : Bool) (port : PortState) (end : EndState) → ShowsFronts (seen_by shared port end) port
-fronts_there shared port end page some = front_of (port.strokes page) some
+fronts_there shared port end page some = (refl, some)
 
-fronts_earlier : (shared learned : Bool) (new : PortState) (end : EndState) (port : PortState) → Learns learned port new → ShowsFronts (seen_by shared new end) port
-fronts_earlier shared learned new end port learns page some = front_grows learned (port.strokes page) (new.strokes page) (learns page) some
+fronts_earlier : (shared learned : Bool) (new : PortState) (end : EndState) (port : PortState) → learned ≡ false → Learns learned port new → ShowsFronts (seen_by shared new end) port
+fronts_earlier shared learned new end port alone learns page some =
+    (front_same (port.strokes page) (new.strokes page) (subst (λ b. Grows b (port.strokes page) (new.strokes page)) alone (learns page)) some, some)
 
 -- what a line says of data that are kept
-pub told_read : (client : ClientState) (tag : ℕ) (shared own_shared : Bool) (old new : PortState) (end : EndState) (bytes : List ℕ) (len total : ℕ)
+pub told_read : (client : ClientState) (tag : ℕ) (shared own_shared : Bool) (old new : PortState) (end : EndState) (bytes : List ℕ) (len total : ℕ) → own_shared ≡ false
     → (data_range client tag ≡ None → ⊥) → IfSome (data_range client tag) (λ range. GivesData (name_of client tag) own_shared range old new bytes) → len ≡ length bytes → total ≡ sum bytes
     → StepReads (seen_by shared new end) client (verbs.Data tag) (steps.Ends (outcomes.Data len total))
-told_read client tag shared own_shared old new end bytes len total some given long adds = at (data_range client tag) some given
+told_read client tag shared own_shared old new end bytes len total alone some given long adds = at (data_range client tag) some given
   where
     at : (o : Option DataRange) → (o ≡ None → ⊥) → IfSome o (λ range. GivesData (name_of client tag) own_shared range old new bytes)
         → MatchOption o ⊥ (λ range. IsDataRead (seen_by shared new end) (name_of client tag) range len total)
@@ -141,7 +141,7 @@ told_read client tag shared own_shared old new end bytes len total some given lo
       len_is = long;
       in_range = long ∙ all_long (name_of client tag) own_shared range old new bytes given;
       total_is = adds;
-      read = all_read (seen_by shared new end) own_shared (name_of client tag) range old new bytes (fronts_earlier shared own_shared new end) (fronts_there shared new end) given;
+      read = all_read (seen_by shared new end) own_shared (name_of client tag) range old new bytes (λ port learns. fronts_earlier shared own_shared new end port alone learns) (fronts_there shared new end) given;
     }
 
 pub told_stale : (client : ClientState) (tag : ℕ) (shared own_shared : Bool) (old new : PortState) (end : EndState) (page : ℕ) → (data_range client tag ≡ None → ⊥)

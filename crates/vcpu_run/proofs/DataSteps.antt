@@ -18,7 +18,7 @@ use Rattle.vcpu_run.specs.declared.driver.Driver.{Driver}
 use Rattle.vcpu_run.specs.declared.pair.Pair.{Pair}
 use Rattle.vcpu_run.specs.Agreed.{OnDrivers}
 use Rattle.vcpu_run.specs.DataKept.{IsKeptAt, StepSends, range_in}
-use Rattle.vcpu_run.specs.LinesShow.{Seen, Sees, seen_at, seen_by}
+use Rattle.vcpu_run.specs.LinesShow.{Seen, Sees, seen_by, seen_now}
 use Rattle.vcpu_run.specs.TakenScripts.{PairReads, StepKeeps}
 use Rattle.vcpu_run.proofs.DataOf.{kept_told_more}
 use Rattle.vcpu_run.proofs.LinesShown.{end_sees}
@@ -125,9 +125,9 @@ both_keep seen old new verb (Err memory) reads sends = tt
 pub pair_reads_none : (pair : Pair) (verb : Verb) (result : Result Step NoMemory) → given_by verb ≡ None → range_in verb ≡ None → PairReads verb pair pair result
 pair_reads_none pair verb result no_data no_range = at pair.driver
   where
-    at : (o : Option Driver) → OnDrivers o o (λ a b. IfOk result (StepKeeps (seen_at pair) a.client b.client verb))
+    at : (o : Option Driver) → OnDrivers o o (λ a b. IfOk result (StepKeeps (seen_now pair) a.client b.client verb))
     at None = tt
-    at (Some driver) = both_keep (seen_at pair) driver.client driver.client verb result (none_read (seen_at pair) driver.client verb result no_data) (none_sends driver.client.rows verb result no_range)
+    at (Some driver) = both_keep (seen_now pair) driver.client driver.client verb result (none_read (seen_now pair) driver.client verb result no_data) (none_sends driver.client.rows verb result no_range)
 
 -- what a driver sees is there at its pair
 reads_more : (a b : Seen) → Sees a b → (client : ClientState) (verb : Verb) (result : Result Step NoMemory) → IfOk result (StepReads a client verb) → IfOk result (StepReads b client verb)
@@ -138,7 +138,7 @@ reads_more a b more client verb (Err memory) is = tt
 pub pair_reads : (r : Result Step NoMemory) (old new : Pair) (a b : Driver) (first : Bool) (lenders : List GName) (verb : Verb) → old.driver ≡ Some a → new.driver ≡ Some b → first ≡ false
     → IfOk r (StepReads (seen_by false (known_of new.window) (end_of lenders new.link first)) a.client verb) → IfOk r (StepSends b.client.rows verb) → PairReads verb old new r
 pair_reads r old new a b first lenders verb before after is reads sends =
-    subst (λ (o : Option Driver). OnDrivers o new.driver (λ a b. IfOk r (StepKeeps (seen_at new) a.client b.client verb))) (sym before)
-    (subst (λ (o : Option Driver). OnDrivers (Some a) o (λ a b. IfOk r (StepKeeps (seen_at new) a.client b.client verb))) (sym after)
-    (both_keep (seen_at new) a.client b.client verb r
-    (reads_more (seen_by false (known_of new.window) (end_of lenders new.link first)) (seen_at new) (end_sees new lenders first is) a.client verb r reads) sends))
+    subst (λ (o : Option Driver). OnDrivers o new.driver (λ a b. IfOk r (StepKeeps (seen_now new) a.client b.client verb))) (sym before)
+    (subst (λ (o : Option Driver). OnDrivers (Some a) o (λ a b. IfOk r (StepKeeps (seen_now new) a.client b.client verb))) (sym after)
+    (both_keep (seen_now new) a.client b.client verb r
+    (reads_more (seen_by false (known_of new.window) (end_of lenders new.link first)) (seen_now new) (end_sees new lenders first is) a.client verb r reads) sends))

@@ -17,6 +17,7 @@ use Rattle.vcpu_run.specs.declared.pair.Pair.{Pair}
 use Rattle.vcpu_run.specs.declared.unit_seat.Seat.{Seat}
 use Rattle.vcpu_run.specs.declared.unit_seat.Seat.TheVariants as places
 use Rattle.vcpu_run.specs.Pairs.{AreDriven, AreDrivers, Drives, GoesOn, IsDriver}
+use Rattle.vcpu_run.specs.Reached.{IfReached}
 use Rattle.vcpu_run.specs.Scripts.{AreSeats}
 use Rattle.vcpu_run.specs.Works.{HaveClients}
 use Rattle.vcpu_run.proofs.Announcing.{both_bools, puts_at, puts_on, puts_same}
@@ -92,6 +93,7 @@ drives_same pair = record {
   server_session = refl;
   server_taken = refl;
   puts = puts_same (end_of [] pair.link false);
+  reached = λ is. is;
   alone = alone_same pair.driver (link_side pair.link false).registered;
 }
 
@@ -114,6 +116,7 @@ drives_on a b c first next = record {
   server_session = next.server_session ∙ first.server_session;
   server_taken = next.server_taken ∙ first.server_taken;
   puts = puts_on (end_of [] a.link false) (end_of [] b.link false) (end_of [] c.link false) first.server_registered next.server_session first.puts next.puts;
+  reached = λ is. next.reached (first.reached is);
   alone = alone_on _ _ _ a.window b.window a.driver b.driver first.driver first.alone next.alone;
 }
 
@@ -139,6 +142,7 @@ drives_here a b old link place session puts alone = record {
   server_session = session;
   server_taken = ap (λ (p : EndPlace). p.partner_taken) place;
   puts = puts;
+  reached = subst (IfReached old.driver) (sym (ap (λ (p : EndPlace). p.received) place));
   alone = alone;
 }
 

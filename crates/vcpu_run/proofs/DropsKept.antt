@@ -15,7 +15,6 @@ use Rattle.crq_ring.specs.declared.rows.DropRow.{DropRow}
 use Rattle.crq_ring.specs.declared.rows.PipeRow.{PipeRow}
 use Rattle.crq_session.specs.PlainState.{end_of, side_of}
 use Rattle.boot_text.specs.declared.plan.Line.{Line}
-use Rattle.boot_text.specs.declared.verb.Verb.{Verb}
 use Rattle.vio_trace.specs.declared.outcome.Outcome.{Outcome}
 use Rattle.vio_trace.specs.declared.outcome.Outcome.TheVariants as outcomes
 use Rattle.vio_trace.specs.declared.rows.DropRow.{DropRow as TraceDrop}
@@ -23,15 +22,17 @@ use Rattle.vio_trace.specs.declared.rows.LogRow.{LogRow}
 use Rattle.unit_region.specs.declared.step.Step.{Step}
 use Rattle.unit_region.specs.declared.step.Step.TheVariants as steps
 use Rattle.vcpu_run.specs.declared.pair.Pair.{Pair}
-use Rattle.vcpu_run.specs.DropsShown.{IsFullAt, IsFullBy, IsFullIf, KeepsFull, LinesFull, SaysFull, StepFull}
+use Rattle.vcpu_run.specs.DropsShown.{IsFullAt, IsFullBy, IsFullIf, KeepsFull, LinesFull, StepFull}
 use Rattle.vcpu_run.specs.LinesShow.{requests}
 use Rattle.vcpu_run.specs.Pairs.{Drives}
 use Rattle.vcpu_run.specs.ScriptTold.{PutsMore}
+use Rattle.vcpu_run.specs.ShutShown.{StaysServed}
 use Rattle.vcpu_run.specs.Sessions.{drops_of, entries_of, session_rows, sessions_from, shown_drop}
 use Rattle.vcpu_run.proofs.Driving.{same_or, some_is}
 use Rattle.vcpu_run.proofs.DropsStay.{drop_in, stay_on, stay_same}
 use Rattle.vcpu_run.proofs.LinesShown.{row_at}
 use Rattle.vcpu_run.proofs.Losing.{of_append}
+use Rattle.vcpu_run.proofs.ShutKept.{served_drives, served_on, served_same}
 use Rattle.vcpu_run.proofs.QueueLaws.{entries_are}
 
 -- more entries behind those of a session
@@ -68,10 +69,10 @@ full_on old new more number held is = record {
     grown = ap (of_session is.session) more.1 ∙ of_append is.session (side_of old.link true).queue.sent more.0
 
 pub drives_more : (old new : Pair) → Drives old new → PutsMore old new
-drives_more old new driven = (driven.puts.rows, driven.puts.sent, record { slots = driven.server_slots; drops = driven.puts.drops })
+drives_more old new driven = (driven.puts.rows, driven.puts.sent, record { slots = driven.server_slots; drops = driven.puts.drops }, served_drives old new driven)
 
 pub more_same : (pair : Pair) → PutsMore pair pair
-more_same pair = ([], sym (append-nil (side_of pair.link true).queue.sent), record { slots = refl; drops = stay_same (side_of pair.link true).queue.drops (side_of pair.link true).queue.drops refl })
+more_same pair = ([], sym (append-nil (side_of pair.link true).queue.sent), record { slots = refl; drops = stay_same (side_of pair.link true).queue.drops (side_of pair.link true).queue.drops refl }, served_same pair.link)
 
 pub more_on : (a b c : Pair) → PutsMore a b → PutsMore b c → PutsMore a c
 more_on a b c x y = (
@@ -81,11 +82,13 @@ more_on a b c x y = (
     slots = y.2.slots ∙ x.2.slots;
     drops = stay_on (side_of a.link true).queue.drops (side_of b.link true).queue.drops (side_of c.link true).queue.drops x.2.drops y.2.drops;
   },
+  served_on a.link b.link c.link x.3 y.3,
 )
 
 -- a turn of the server unit puts nothing into its own queue
-pub more_served : (old new : Pair) → (side_of new.link true).queue.sent ≡ (side_of old.link true).queue.sent → KeepsFull old new → PutsMore old new
-more_served old new sent keeps = ([], sent ∙ sym (append-nil (side_of old.link true).queue.sent), keeps)
+pub more_served : (old new : Pair) → (side_of new.link true).queue.sent ≡ (side_of old.link true).queue.sent → KeepsFull old new → StaysServed old.link new.link
+    → PutsMore old new
+more_served old new sent keeps stays = ([], sent ∙ sym (append-nil (side_of old.link true).queue.sent), keeps, stays)
 
 -- from one predicate to a wider one
 if_full_more : (P Q : (number held : ℕ) → Type 0) → ((number held : ℕ) → P number held → Q number held) → (outcome : Outcome) → IsFullIf P outcome → IsFullIf Q outcome
@@ -112,40 +115,32 @@ if_full_more P Q more (outcomes.Frame code number) is = tt
 if_full_more P Q more outcomes.Done is = tt
 if_full_more P Q more (outcomes.Bytes shown) is = tt
 
-says_full_more : (P Q : (number held : ℕ) → Type 0) → ((number held : ℕ) → P number held → Q number held) → (verb : Verb) (outcome : Outcome) → SaysFull P verb outcome → SaysFull Q verb outcome
-says_full_more P Q more verb outcome is = at (requests verb) is
-  where
-    at : (b : Bool) → MatchBool b (IsFullIf P outcome) (Unit {0}) → MatchBool b (IsFullIf Q outcome) (Unit {0})
-    at true h = if_full_more P Q more outcome h
-    at false h = tt
-
-step_full_more : (P Q : (number held : ℕ) → Type 0) → ((number held : ℕ) → P number held → Q number held) → (verb : Verb) (result : Result Step NoMemory) → StepFull P verb result → StepFull Q verb result
-step_full_more P Q more verb (Ok (steps.Ends outcome)) is = says_full_more P Q more verb outcome is
-step_full_more P Q more verb (Ok (steps.Waits did)) is = tt
-step_full_more P Q more verb (Err memory) is = tt
+step_full_more : (P Q : (number held : ℕ) → Type 0) → ((number held : ℕ) → P number held → Q number held) → (result : Result Step NoMemory) → StepFull P result → StepFull Q result
+step_full_more P Q more (Ok (steps.Ends outcome)) is = if_full_more P Q more outcome is
+step_full_more P Q more (Ok (steps.Waits did)) is = tt
+step_full_more P Q more (Err memory) is = tt
 
 pub lines_full_more : (P Q : (number held : ℕ) → Type 0) (unit : ℕ) (lines : List Line) (rows : List LogRow) → ((number held : ℕ) → P number held → Q number held)
     → LinesFull P unit lines rows → LinesFull Q unit lines rows
-lines_full_more P Q unit lines rows more full i line row found at is = says_full_more P Q more line.verb row.outcome (full i line row found at is)
+lines_full_more P Q unit lines rows more full i line row found at is = if_full_more P Q more row.outcome (full i line row found at is)
 
 -- the next line has its record
 pub lines_full_next : (P : (number held : ℕ) → Type 0) (unit : ℕ) (lines : List Line) (rows : List LogRow) (line : Line) (row : LogRow) → slice_get lines (length rows) ≡ Some line
-    → LinesFull P unit lines rows → (line.unit ≡ unit → SaysFull P line.verb row.outcome) → LinesFull P unit lines (rows ++ row ∷ [])
+    → LinesFull P unit lines rows → (line.unit ≡ unit → IsFullIf P row.outcome) → LinesFull P unit lines (rows ++ row ∷ [])
 lines_full_next P unit lines rows line row found full last i l r there at is = by (row_at rows row r i at)
   where
-    by : (slice_get rows i ≡ Some r) ⊎ ((i ≡ length rows) × (r ≡ row)) → SaysFull P l.verb r.outcome
+    by : (slice_get rows i ≡ Some r) ⊎ ((i ≡ length rows) × (r ≡ row)) → IsFullIf P r.outcome
     by (inl h) = full i l r there h is
     by (inr h) =
         let same : l ≡ line = some_is l line (sym there ∙ (ap (slice_get lines) h.0 ∙ found)) in
-        subst (λ (x : LogRow). SaysFull P l.verb x.outcome) (sym h.1)
-        (subst (λ (x : Line). SaysFull P x.verb row.outcome) (sym same) (last (sym (ap (λ (x : Line). x.unit) same) ∙ is)))
+        subst (λ (x : LogRow). IsFullIf P x.outcome) (sym h.1) (last (sym (ap (λ (x : Line). x.unit) same) ∙ is))
 
 -- what a driver finds is so at its pair
-pub pair_full : (pair : Pair) (lenders : List GName) (first : Bool) (verb : Verb) (result : Result Step NoMemory) → first ≡ false
-    → StepFull (IsFullBy false (end_of lenders pair.link first)) verb result → StepFull (IsFullAt pair) verb result
-pair_full pair lenders first verb result is full =
-    step_full_more (IsFullBy false (end_of lenders pair.link false)) (IsFullAt pair) home verb result
-    (subst (λ b. StepFull (IsFullBy false (end_of lenders pair.link b)) verb result) is full)
+pub pair_full : (pair : Pair) (lenders : List GName) (first : Bool) (result : Result Step NoMemory) → first ≡ false
+    → StepFull (IsFullBy false (end_of lenders pair.link first)) result → StepFull (IsFullAt pair) result
+pair_full pair lenders first result is full =
+    step_full_more (IsFullBy false (end_of lenders pair.link false)) (IsFullAt pair) home result
+    (subst (λ b. StepFull (IsFullBy false (end_of lenders pair.link b)) result) is full)
   where
     home : (number held : ℕ) → IsFullBy false (end_of lenders pair.link false) number held → IsFullAt pair number held
     home number held h = record { session = (side_of pair.link true).queue.session; begun = (side_of pair.link true).begun (h.partner refl); drop = h.drop }

@@ -1,9 +1,7 @@
 -- A request that says that it was dropped met a full slot, whose record stays at its pair.
-use Rattle.std.proofs.Common.{◌≡◌, inl, inr, ℕ, nat_le, cond, Bool, true, false, List, [], ◌∷◌, Option, Some, None, Result, Ok, Err, IfErr, IfSome, MatchBool, length, refl, sym, subst, option_map}
+use Rattle.std.proofs.Common.{◌≡◌, inl, inr, ℕ, nat_le, cond, Bool, true, false, List, [], ◌∷◌, Option, Some, None, Result, Ok, Err, IfErr, IfSome, length, refl, sym, ap, subst, option_map}
 use Rattle.vio_num.specs.declared.memory.NoMemory.{NoMemory}
 use Rattle.crq_session.specs.EndState.{OnlyReserves}
-use Rattle.boot_text.specs.declared.verb.Verb.{Verb}
-use Rattle.boot_text.specs.declared.verb.Verb.TheVariants as verbs
 use Rattle.vio_trace.specs.declared.outcome.Outcome.{Outcome}
 use Rattle.vio_trace.specs.declared.outcome.Outcome.TheVariants as outcomes
 use Rattle.unit_region.specs.declared.step.Step.{Step}
@@ -14,18 +12,17 @@ use Rattle.vscsi_client.specs.Ports.{Ports, WhyNotWritten}
 use Rattle.vscsi_client.specs.Sending.{PutsNoUnit, WhyNotSent, WhyNotSubmitted, command_refusal, logout_refusal, logout_refused_by, logout_unit, refused_by, table_writes, task_refusal, task_unit}
 use Rattle.vscsi_client.specs.Spans.{first_sharing, op_in_range}
 use Rattle.vscsi_client.specs.State.{ClientState}
+use Rattle.vscsi_client.specs.declared.answers.LoginTurn.{LoginTurn}
+use Rattle.vscsi_client.specs.declared.answers.LoginTurn.TheVariants as turns
 use Rattle.vscsi_client.specs.declared.answers.Refused.{Refused}
 use Rattle.vscsi_client.specs.declared.answers.Refused.TheVariants as whys
 use Rattle.vscsi_client.specs.declared.op.Op.{Op}
 use Rattle.vscsi_client.specs.declared.outgoing.Outgoing.{Outgoing}
 use Rattle.vcpu_run.specs.DropsShown.{IsFullBy, IsFullIf, StepFull}
-use Rattle.vcpu_run.specs.Commands.{IsOpOf}
-use Rattle.vcpu_run.specs.LinesShow.{requests}
-use Rattle.vcpu_run.specs.Sendings.{SaysSent, SaysWhy, says_as}
+use Rattle.vcpu_run.specs.Sendings.{SaysSent, SaysTurned, SaysWhy, says_as}
 use Rattle.vcpu_run.proofs.Askings.{err_is}
 use Rattle.vcpu_run.proofs.Driving.{some_is}
 use Rattle.vcpu_run.proofs.DropsStay.{found_full}
-use Rattle.vcpu_run.proofs.LinesShown.{op_requests}
 
 -- only a full slot says `dropped`
 dropped_why : (why : Refused) (number held : ℕ) → says_as why ≡ Some (outcomes.Dropped number held) → why ≡ whys.Dropped number held
@@ -46,12 +43,10 @@ IfFull P (whys.Dropped number held) = P number held
 IfFull P _ = Unit {0}
 
 -- what a request says then
-pub sent_full : (P : (number held : ℕ) → Type 0) (verb : Verb) (answer : Result ℕ Refused) (result : Result Step NoMemory) → requests verb ≡ true → SaysSent answer result
-    → IfErr answer (λ why. SaysWhy why result) → IfErr answer (IfFull P) → StepFull P verb result
-sent_full P verb (Ok tag) result asked says why full =
-    subst (StepFull P verb) (sym says) (subst (λ b. MatchBool b (Unit {0}) (Unit {0})) (sym asked) tt)
-sent_full P verb (Err why) (Ok (steps.Ends outcome)) asked says said full =
-    subst (λ b. MatchBool b (IsFullIf P outcome) (Unit {0})) (sym asked) (at outcome said)
+pub sent_full : (P : (number held : ℕ) → Type 0) (answer : Result ℕ Refused) (result : Result Step NoMemory) → SaysSent answer result → IfErr answer (λ why. SaysWhy why result)
+    → IfErr answer (IfFull P) → StepFull P result
+sent_full P (Ok tag) result says why full = subst (StepFull P) (sym says) tt
+sent_full P (Err why) (Ok (steps.Ends outcome)) says said full = at outcome said
   where
     at : (o : Outcome) → says_as why ≡ Some o → IsFullIf P o
     at (outcomes.Granted credits) e = tt
@@ -76,14 +71,48 @@ sent_full P verb (Err why) (Ok (steps.Ends outcome)) asked says said full =
     at (outcomes.Frame code number) e = tt
     at outcomes.Done e = tt
     at (outcomes.Bytes shown) e = tt
-sent_full P verb (Err why) (Ok (steps.Waits did)) asked says said full = tt
-sent_full P verb (Err why) (Err memory) asked says said full = tt
+sent_full P (Err why) (Ok (steps.Waits did)) says said full = tt
+sent_full P (Err why) (Err memory) says said full = tt
 
--- a line that sends no request
-pub full_none : (P : (number held : ℕ) → Type 0) (verb : Verb) (result : Result Step NoMemory) → requests verb ≡ false → StepFull P verb result
-full_none P verb (Ok (steps.Ends outcome)) none = subst (λ b. MatchBool b (IsFullIf P outcome) (Unit {0})) (sym none) tt
-full_none P verb (Ok (steps.Waits did)) none = tt
-full_none P verb (Err memory) none = tt
+-- a line that does not say so
+pub full_none : (P : (number held : ℕ) → Type 0) (result : Result Step NoMemory) → ((number held : ℕ) → result ≡ Ok (steps.Ends (outcomes.Dropped number held)) → ⊥) → StepFull P result
+full_none P (Ok (steps.Ends outcome)) none = at outcome refl
+  where
+    at : (o : Outcome) → outcome ≡ o → IsFullIf P o
+    at (outcomes.Granted credits) e = tt
+    at (outcomes.Sent tag) e = tt
+    at (outcomes.Took count) e = tt
+    at outcomes.Lost e = tt
+    at (outcomes.TookThenLost count) e = tt
+    at (outcomes.Rejected reason) e = tt
+    at outcomes.Unanswered e = tt
+    at outcomes.Range e = tt
+    at outcomes.NotLoggedIn e = tt
+    at (outcomes.NoCredit limit) e = tt
+    at (outcomes.Overlap tag) e = tt
+    at outcomes.Closed e = tt
+    at (outcomes.Dropped number held) e = absurd (none number held (ap (λ (x : Outcome). Ok (steps.Ends x)) e))
+    at (outcomes.Data size sum) e = tt
+    at (outcomes.Stale page) e = tt
+    at outcomes.Unknown e = tt
+    at (outcomes.Code code) e = tt
+    at (outcomes.Value value) e = tt
+    at (outcomes.Posted buffers code) e = tt
+    at (outcomes.Frame code number) e = tt
+    at outcomes.Done e = tt
+    at (outcomes.Bytes shown) e = tt
+full_none P (Ok (steps.Waits did)) none = tt
+full_none P (Err memory) none = tt
+
+-- a turn of a login
+pub turned_full : (P : (number held : ℕ) → Type 0) (turn : LoginTurn) (step : Step) → SaysTurned turn step → StepFull P (Ok step)
+turned_full P (turns.Granted credits) step says = subst (λ (s : Step). StepFull P (Ok s)) (sym says) tt
+turned_full P (turns.Rejected reason) step says = subst (λ (s : Step). StepFull P (Ok s)) (sym says) tt
+turned_full P turns.Lost step says = subst (λ (s : Step). StepFull P (Ok s)) (sym says) tt
+turned_full P turns.Again (steps.Waits did) says = tt
+turned_full P turns.Again (steps.Ends outcome) says = absurd says
+turned_full P (turns.Busy number held) (steps.Waits did) says = tt
+turned_full P (turns.Busy number held) (steps.Ends outcome) says = absurd says
 
 -- a unit whose entry was not put
 unit_full : (line : ℕ) (s : ClientState) (iu : Iu) (old before new : Ports) (why : Refused) → before.crq_shared ≡ old.crq_shared → OnlyReserves old.crq before.crq
@@ -140,13 +169,13 @@ not_submitted line op s s' old new why place (inl h) = at why h.why_not
 not_submitted line op s s' old new why place (inr h) =
     unit_full line s (units.Cmd h.command) old h.before new why h.ready.crq_shared h.ready.crq place h.why_not
 
-pub submit_full : (verb : Verb) (line : ℕ) (op : Op) (s s' : ClientState) (old new : Ports) (answer : Result ℕ Refused) (result : Result Step NoMemory) → IsOpOf verb op
+pub submit_full : (line : ℕ) (op : Op) (s s' : ClientState) (old new : Ports) (answer : Result ℕ Refused) (result : Result Step NoMemory)
     → SaysSent answer result → IfErr answer (λ why. SaysWhy why result) → new.crq.place ≡ old.crq.place
     → IfSome (command_refusal old.own.place.size s op) (λ why. (answer ≡ Err why) × (s' ≡ s) × (new.crq ≡ old.crq) × (new.own ≡ old.own))
     → (command_refusal old.own.place.size s op ≡ None → IfErr answer (WhyNotSubmitted line op s s' old new))
-    → StepFull (IsFullBy old.crq_shared new.crq) verb result
-submit_full verb line op s s' old new answer result is says said place refused not_sent =
-    sent_full P verb answer result (op_requests verb op is) says said (at answer refl (command_refusal old.own.place.size s op) refl refused)
+    → StepFull (IsFullBy old.crq_shared new.crq) result
+submit_full line op s s' old new answer result says said place refused not_sent =
+    sent_full P answer result says said (at answer refl (command_refusal old.own.place.size s op) refl refused)
   where
     P : (number held : ℕ) → Type 0
     P = IsFullBy old.crq_shared new.crq
@@ -163,13 +192,13 @@ not_sent_full : (line : ℕ) (s : ClientState) (iu : Iu) (old new : Ports) (why 
 not_sent_full line s iu old new why place (inl h) = subst (IfFull (IsFullBy old.crq_shared new.crq)) (sym h.0) tt
 not_sent_full line s iu old new why place (inr h) = unit_full line s iu old h.before new why h.ready.crq_shared h.ready.crq place h.why_not
 
-request_full : (line : ℕ) (s : ClientState) (iu : Iu) (verb : Verb) (old new : Ports) (answer : Result ℕ Refused) (result : Result Step NoMemory) (refusal : Option Refused) → requests verb ≡ true
+request_full : (line : ℕ) (s : ClientState) (iu : Iu) (old new : Ports) (answer : Result ℕ Refused) (result : Result Step NoMemory) (refusal : Option Refused)
     → SaysSent answer result → IfErr answer (λ why. SaysWhy why result) → new.crq.place ≡ old.crq.place
     → ((why : Refused) → refusal ≡ Some why → IfFull (IsFullBy old.crq_shared new.crq) why)
     → IfSome refusal (λ why. (answer ≡ Err why) × (new.crq ≡ old.crq) × (new.own ≡ old.own))
-    → (refusal ≡ None → IfErr answer (WhyNotSent line s iu old new)) → StepFull (IsFullBy old.crq_shared new.crq) verb result
-request_full line s iu verb old new answer result refusal asked says said place none refused not_sent =
-    sent_full P verb answer result asked says said (at answer refl refusal refl refused)
+    → (refusal ≡ None → IfErr answer (WhyNotSent line s iu old new)) → StepFull (IsFullBy old.crq_shared new.crq) result
+request_full line s iu old new answer result refusal says said place none refused not_sent =
+    sent_full P answer result says said (at answer refl refusal refl refused)
   where
     P : (number held : ℕ) → Type 0
     P = IsFullBy old.crq_shared new.crq
@@ -183,16 +212,16 @@ pub task_full : (line function task : ℕ) (s : ClientState) (old new : Ports) (
     → SaysSent answer result → IfErr answer (λ why. SaysWhy why result) → new.crq.place ≡ old.crq.place
     → IfSome (task_refusal s) (λ why. (answer ≡ Err why) × (new.crq ≡ old.crq) × (new.own ≡ old.own))
     → (task_refusal s ≡ None → IfErr answer (WhyNotSent line s (task_unit function task s) old new))
-    → StepFull (IsFullBy old.crq_shared new.crq) (verbs.Task function task) result
+    → StepFull (IsFullBy old.crq_shared new.crq) result
 task_full line function task s old new answer result says said place refused not_sent =
-    request_full line s (task_unit function task s) (verbs.Task function task) old new answer result (task_refusal s) refl says said place
+    request_full line s (task_unit function task s) old new answer result (task_refusal s) says said place
     (λ why e. refused_none (IsFullBy old.crq_shared new.crq) s.granted (length s.outgoing) None why e) refused not_sent
 
 pub logout_full : (line : ℕ) (s : ClientState) (old new : Ports) (answer : Result ℕ Refused) (result : Result Step NoMemory)
     → SaysSent answer result → IfErr answer (λ why. SaysWhy why result) → new.crq.place ≡ old.crq.place
     → IfSome (logout_refusal s) (λ why. (answer ≡ Err why) × (new.crq ≡ old.crq) × (new.own ≡ old.own))
     → (logout_refusal s ≡ None → IfErr answer (WhyNotSent line s (logout_unit s) old new))
-    → StepFull (IsFullBy old.crq_shared new.crq) verbs.Logout result
+    → StepFull (IsFullBy old.crq_shared new.crq) result
 logout_full line s old new answer result says said place refused not_sent =
-    request_full line s (logout_unit s) verbs.Logout old new answer result (logout_refusal s) refl says said place
+    request_full line s (logout_unit s) old new answer result (logout_refusal s) says said place
     (λ why e. waits_none (IsFullBy old.crq_shared new.crq) s.granted s.outgoing why e) refused not_sent

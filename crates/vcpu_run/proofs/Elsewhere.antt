@@ -8,11 +8,13 @@ use Rattle.vcpu_run.specs.declared.unit_seat.Seat.{Seat}
 use Rattle.vcpu_run.specs.declared.unit_seat.Seat.TheVariants as places
 use Rattle.lan_script.specs.declared.seat.PortSeat.{PortSeat}
 use Rattle.vcpu_run.specs.Agreed.{AreAllOut, AreCredited, IsCredited, IsLoggedOut, SameBeside, SameDrivers, SameElse, driver_at, driver_in}
-use Rattle.vcpu_run.specs.ClientStrokes.{AreBare, LogsStrokes}
-use Rattle.vcpu_run.specs.Machines.{AreScripts}
+use Rattle.vcpu_run.specs.ClientStrokes.{AreBare}
+use Rattle.vcpu_run.specs.Machines.{AllStay, AreScripts}
+use Rattle.vcpu_run.specs.ScriptLogs.{LogsLines}
 use Rattle.vcpu_run.specs.ScriptTold.{SameClients}
 use Rattle.vcpu_run.specs.Making.{AreMade, IsMade}
 use Rattle.vcpu_run.proofs.Agreeing.{on_same}
+use Rattle.vcpu_run.proofs.CallRecords.{calls_else, calls_none, calls_served}
 use Rattle.vcpu_run.proofs.ClientRecords.{logs_bare, logs_else, logs_served}
 use Rattle.vcpu_run.proofs.Crediting.{credited_by_own, credited_same}
 use Rattle.vcpu_run.proofs.Listed.{each_set, held}
@@ -51,19 +53,25 @@ ok_two (Ok x) P Q p q = (p, q)
 ok_two (Err e) P Q p q = tt
 
 -- a turn of the server, and of one script
-pub credits_served : (old new : List Pair) (scripts : List Script) → SameDrivers old new → SameClients old new → AreCredited old scripts → AreCredited new scripts
-credits_served old new scripts same clients are i script found =
-    (credited_same old new script same (are i script found).0, logs_served old new script clients (are i script found).1)
+pub credits_served : (old new : List Pair) (scripts : List Script) → AllStay old new → SameDrivers old new → SameClients old new → AreCredited old scripts → AreCredited new scripts
+credits_served old new scripts stay same clients are i script found =
+    let logs = (are i script found).1 in (
+      credited_same old new script same (are i script found).0,
+      record {
+        strokes = logs_served old new script clients logs.strokes;
+        calls = calls_served old new script stay clients logs.calls;
+      },
+    )
 
 pub credits_turned : (old new : List Pair) (ports : List PortSeat) (scripts : List Script) (i : ℕ) (script later : Script) → slice_get scripts i ≡ Some script → AreScripts old ports scripts
-    → SameElse script.seats.items old new → AreCredited old scripts → IsCredited new later × LogsStrokes new later → AreCredited new (slice_set scripts i later)
+    → SameElse script.seats.items old new → AreCredited old scripts → IsCredited new later × LogsLines new later → AreCredited new (slice_set scripts i later)
 credits_turned old new ports scripts i script later found scripts_are others are here =
-    each_set (λ j other. IsCredited new other × LogsStrokes new other) scripts i later
+    each_set (λ j other. IsCredited new other × LogsLines new other) scripts i later
     (λ j other there apart.
     let same : (u k : ℕ) → slice_get other.seats.items u ≡ Some (places.Client k) → slice_get new k ≡ slice_get old k =
     λ u k sits. others k (λ v too. apart (seats_apart old ports scripts scripts_are j i u v k other script there found sits too).0) in (
       credited_by_own old new other (λ u k sits. on_same (driver_at old k) (driver_at new k) (ap driver_in (same u k sits))) (are j other there).0,
-      logs_else old new other same (are j other there).1,
+      record { strokes = logs_else old new other same (are j other there).1.strokes; calls = calls_else old new other same (are j other there).1.calls },
     ))
     here
 
@@ -75,4 +83,4 @@ all_out (Some pair) out = out pair refl
 pub credits_made : (partitions : List Partition) (pairs : List Pair) (scripts : List Script) → AreMade partitions scripts → AreAllOut pairs → AreBare pairs → AreCredited pairs scripts
 credits_made partitions pairs scripts made out bare i script found =
     let partition = held (λ partition. IsMade partition i script) (slice_get partitions i) (made.each i script found) in
-    (partition.2.credited pairs (λ unit k sits. all_out (slice_get pairs k) (out k)), logs_bare pairs script partition.2.fresh bare)
+    (partition.2.credited pairs (λ unit k sits. all_out (slice_get pairs k) (out k)), record { strokes = logs_bare pairs script partition.2.fresh bare; calls = calls_none pairs script partition.2.fresh })

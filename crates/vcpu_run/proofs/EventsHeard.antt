@@ -32,7 +32,7 @@ use Rattle.vio_trace.specs.declared.outcome.Outcome.{Outcome}
 use Rattle.vio_trace.specs.declared.outcome.Outcome.TheVariants as outcomes
 use Rattle.vcpu_run.specs.declared.taking.Took.{Took as WhatCame}
 use Rattle.vcpu_run.specs.Credited.{Ended}
-use Rattle.vcpu_run.specs.EventsHeard.{AreHeard, Hears, StepHears, event_if, events_among, events_taken, events_waiting, losses_told, lost_by, lost_in, lost_of, one_event}
+use Rattle.vcpu_run.specs.EventsHeard.{AreEventsHeard, Hears, StepHears, event_if, events_among, events_taken, events_waiting, losses_told, lost_by, lost_in, lost_of, one_event}
 use Rattle.vcpu_run.specs.Sendings.{SaysSent, SaysTurned}
 
 -- how many events are among entries, one list behind another
@@ -373,28 +373,28 @@ losses_more (first ∷ more) e = plain (lost_of first.outcome) (losses_told more
     plain f a all one is = omega (arith, is)
 
 -- what was so of the records is so behind a step that ends a line, and behind one that ends none
-pub heard_ends : (own : List Ended) (e : Ended) (s s' : ClientState) (end end' : EndState) → Hears (lost_of e.outcome) s s' end end' → AreHeard own s end.taken
-    → AreHeard (own ++ e ∷ []) s' end'.taken
+pub heard_ends : (own : List Ended) (e : Ended) (s s' : ClientState) (end end' : EndState) → Hears (lost_of e.outcome) s s' end end' → AreEventsHeard own s end.taken
+    → AreEventsHeard (own ++ e ∷ []) s' end'.taken
 heard_ends own e s s' end end' = plain (losses_told own) (lost_of e.outcome) (losses_told (own ++ e ∷ [])) (events_waiting s) (events_waiting s') (events_taken end.taken) (events_taken end'.taken) (losses_more own e)
   where
     plain : (l n all w w' t t' : ℕ) → all ≡ l + n → n + (w' + t) ≤ w + t' → l + w ≤ t → all + w' ≤ t'
     plain l n all w w' t t' more hears is = omega (arith, more, hears, is)
 
-pub heard_on : (own : List Ended) (s s' : ClientState) (end end' : EndState) → Hears 0 s s' end end' → AreHeard own s end.taken → AreHeard own s' end'.taken
+pub heard_on : (own : List Ended) (s s' : ClientState) (end end' : EndState) → Hears 0 s s' end end' → AreEventsHeard own s end.taken → AreEventsHeard own s' end'.taken
 heard_on own s s' end end' = plain (losses_told own) (events_waiting s) (events_waiting s') (events_taken end.taken) (events_taken end'.taken)
   where
     plain : (l w w' t t' : ℕ) → 0 + (w' + t) ≤ w + t' → l + w ≤ t → l + w' ≤ t'
     plain l w w' t t' hears is = omega (arith, hears, is)
 
 -- a record that tells of none
-pub heard_quiet : (own : List Ended) (e : Ended) (s : ClientState) (taken : List PipeRow) → lost_of e.outcome ≡ 0 → AreHeard own s taken → AreHeard (own ++ e ∷ []) s taken
+pub heard_quiet : (own : List Ended) (e : Ended) (s : ClientState) (taken : List PipeRow) → lost_of e.outcome ≡ 0 → AreEventsHeard own s taken → AreEventsHeard (own ++ e ∷ []) s taken
 heard_quiet own e s taken = plain (losses_told own) (lost_of e.outcome) (losses_told (own ++ e ∷ [])) (events_waiting s) (events_taken taken) (losses_more own e)
   where
     plain : (l n all w t : ℕ) → all ≡ l + n → n ≡ 0 → l + w ≤ t → all + w ≤ t
     plain l n all w t more none is = omega (arith, more, none, is)
 
 -- what is told at last
-pub heard_last : (own : List Ended) (s : ClientState) (taken : List PipeRow) → AreHeard own s taken → losses_told own ≤ events_taken taken
+pub heard_last : (own : List Ended) (s : ClientState) (taken : List PipeRow) → AreEventsHeard own s taken → losses_told own ≤ events_taken taken
 heard_last own s taken = plain (losses_told own) (events_waiting s) (events_taken taken)
   where
     plain : (l w t : ℕ) → l + w ≤ t → l ≤ t

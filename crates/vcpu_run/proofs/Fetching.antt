@@ -46,7 +46,7 @@ use Rattle.vcpu_run.specs.declared.unit_seat.UnitSeat.{UnitSeat}
 use Rattle.vcpu_run.specs.Answered.{AreBegun}
 use Rattle.vcpu_run.specs.CopyRows.{copies_by, copy_row, piece_row, same_unit}
 use Rattle.vcpu_run.specs.Gathered.{HasLawfulQueue, HasLawfulWindow, copies_of, queue_at, rows_if, sessions_at, trace_of}
-use Rattle.vcpu_run.specs.Intake.{EntriesAreFetched, IsFetched, IsShown, IsTakenIn, begins_on, entries_taken, fetches_shown, rows_taken, taken_in}
+use Rattle.vcpu_run.specs.Intake.{EntriesAreFetched, IsFetched, IsReceiptShown, IsTakenIn, begins_on, entries_taken, fetches_shown, rows_taken, taken_in_session}
 use Rattle.vcpu_run.specs.Machines.{ArePlanned, AreScripts, IsOfPlan}
 use Rattle.vcpu_run.specs.Pairs.{AreOfOneHome}
 use Rattle.vcpu_run.specs.Received.{AreAtRest}
@@ -190,7 +190,7 @@ is_shown : (partitions : List Partition) (trace : Trace) (server client : UnitId
     → intake.queue.taken ≡ pipe.taken → AreBegun pipe.taken → receipt.session ≤ pipe.session
     → sessions_of trace server ≡ session_rows server pipe → intake.own.place.unit ≡ server → intake.grants ≡ trace.grants
     → SideGrows (side_at intake.own) (window_shown partitions trace server) → SideGrows (side_at intake.client) (window_shown partitions trace client)
-    → IsReceived intake receipt → IsShown partitions trace server client receipt
+    → IsReceived intake receipt → IsReceiptShown partitions trace server client receipt
 is_shown partitions trace server client intake pipe receipt taken begun within sessions unit lines own_grows client_grows is = record {
   there = ap (λ (entries : List Entry). slice_get entries receipt.number) shown ∙ stands;
   fetched = at receipt.copy is.fetched;
@@ -202,7 +202,7 @@ is_shown partitions trace server client intake pipe receipt taken begun within s
         ap (λ (entries : List Entry). slice_get entries receipt.number) (sym (entries_are receipt.session pipe.taken))
         ∙ (ap (λ (rows : List PipeRow). slice_get (of_session receipt.session rows) receipt.number) (sym taken) ∙ is.there)
 
-    shown : taken_in trace server receipt.session ≡ entries_of receipt.session pipe.taken
+    shown : taken_in_session trace server receipt.session ≡ entries_of receipt.session pipe.taken
     shown =
         ap (λ (rows : List QueueRow). flat_map (λ (row : QueueRow). row.taken) (filter (λ (row : QueueRow). row.session == receipt.session) rows)) sessions
         ∙ one_session server pipe receipt.session (is_begun pipe.taken receipt.session receipt.number receipt.entry begun stands) within
@@ -235,8 +235,8 @@ taken_in_at partitions trace server client u pair copies receipts laws begun non
             ∙ (ap (λ (o : Option Arrival). map row_of receipts ++ waiting_rows pipe.session o) (sym none)
             ∙ (is.entries ∙ ap srp_rows (sym (ap (flat_map rows_taken) sessions ∙ all_taken server pipe laws begun))));
         copies = ap (map copy_row) (is.copies_are ∙ ap (λ (id : UnitId). filter (is_intake id) copies) unit) ∙ sym shown;
-        each = all_from_each (IsShown partitions trace server client) receipts
-            (each_shown (IsReceived intake) (λ (receipt : Receipt). receipt.session ≤ pipe.session) (IsShown partitions trace server client)
+        each = all_from_each (IsReceiptShown partitions trace server client) receipts
+            (each_shown (IsReceived intake) (λ (receipt : Receipt). receipt.session ≤ pipe.session) (IsReceiptShown partitions trace server client)
             (λ receipt got most. is_shown partitions trace server client intake pipe receipt refl begun most sessions unit refl own_grows client_grows got)
             receipts (each_from_all (IsReceived intake) receipts is.each) (each_from_all (λ (receipt : Receipt). receipt.session ≤ pipe.session) receipts is.begun));
         last = is.last;

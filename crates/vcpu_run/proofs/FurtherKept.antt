@@ -7,18 +7,19 @@ use Rattle.boot_text.specs.declared.verb.Verb.{Verb}
 use Rattle.boot_text.specs.declared.verb.Verb.TheVariants as verbs
 use Rattle.vio_trace.specs.declared.outcome.Outcome.{Outcome}
 use Rattle.vio_trace.specs.declared.outcome.Outcome.TheVariants as outcomes
-use Rattle.vcpu_run.specs.LinesShow.{Further, IsAnswerRead, IsFurtherShown, IsUnitRead, IsValuePut, LogsIn, PutsValue, Seen, Sees, further_of, requests}
+use Rattle.vcpu_run.specs.LinesShow.{Further, IsAnswerRead, IsFurtherShown, IsUnitRead, IsValuePut, LogsIn, PutsValue, Seen, Sees, further_of, region_of, requests}
 
 -- the answer to a login that was read
-unit_read_more : (a b : Seen) → Sees a b → (iu : Iu) → IsUnitRead a iu → IsUnitRead b iu
+unit_read_more : (a b : Seen) → Sees a b → (iu : Iu) → IsUnitRead (region_of a) iu → IsUnitRead (region_of b) iu
 unit_read_more a b more iu is = record {
   slot = is.slot;
+  within = is.within;
   bytes = is.bytes;
   spells = is.spells;
   read = record { fronts = is.read.fronts; there = λ page here. more.fronts page (is.read.fronts page) (is.read.there page here); read = is.read.read };
 }
 
-answer_more : (a b : Seen) → Sees a b → (outcome : Outcome) → IsAnswerRead a outcome → IsAnswerRead b outcome
+pub answer_more : (a b : Seen) → Sees a b → (outcome : Outcome) → IsAnswerRead (region_of a) outcome → IsAnswerRead (region_of b) outcome
 answer_more a b more (outcomes.Granted credits) is = (is.0, is.1, unit_read_more a b more (units.LoginRsp is.0) is.2)
 answer_more a b more (outcomes.Sent tag) is = tt
 answer_more a b more (outcomes.Took count) is = tt

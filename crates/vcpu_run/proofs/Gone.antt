@@ -19,7 +19,7 @@ use Rattle.crq_session.specs.PlainState.{end_of, side_of}
 use Rattle.crq_session.specs.declared.link.PlainLink.{PlainLink}
 use Rattle.block_server.specs.Closings.{is_event}
 use Rattle.vcpu_run.specs.declared.pair.Pair.{Pair}
-use Rattle.vcpu_run.specs.Announces.{HaveEvents, IsOnItsWay, IsTold, KeepsEvent}
+use Rattle.vcpu_run.specs.Announces.{HaveEvents, IsOnItsWay, IsAnnounced, KeepsEvent}
 use Rattle.vcpu_run.specs.Gone.{HeardNoEvent, HearsEvent, IsToldOfGone}
 use Rattle.vcpu_run.specs.Pairs.{Drives}
 use Rattle.vcpu_run.specs.Sessions.{entries_of}
@@ -196,11 +196,11 @@ module _ (old new : Pair) (d : Drives old new) where
     gone = λ on off none. by (sym d.server_registered ∙ on) off none (side_of old.link false).registered refl (d.puts.off is.says off (sym d.server_registered ∙ on));
   }
     where
-      untold : HeardNoEvent (end_of [] new.link true) → IsTold d.puts.rows (end_of [] new.link false) → ⊥
+      untold : HeardNoEvent (end_of [] new.link true) → IsAnnounced d.puts.rows (end_of [] new.link false) → ⊥
       untold none told = not_on_its_way told.0 told.1 none told.2
 
       by : (side_of old.link true).registered ≡ true → (side_of new.link false).registered ≡ false → HeardNoEvent (end_of [] new.link true) → (r : Bool) → (side_of old.link false).registered ≡ r
-          → HaveEvents d.puts.rows ⊎ IsTold d.puts.rows (end_of [] new.link false) → length (received_now (end_of [] new.link true)) ≡ 0
+          → HaveEvents d.puts.rows ⊎ IsAnnounced d.puts.rows (end_of [] new.link false) → length (received_now (end_of [] new.link true)) ≡ 0
       by on off none r was (inr told) = absurd (untold none told)
       by on off none true was (inl events) = absurd (untold none (d.puts.freed was off on))
       by on off none false was (inl events) = ap length (grown

@@ -41,7 +41,7 @@ use Rattle.vcpu_run.specs.LoginsSent.{GoInOrder}
 use Rattle.vcpu_run.specs.Machines.{server_id}
 use Rattle.vcpu_run.specs.News.{IsNth}
 use Rattle.vcpu_run.specs.Pairs.{AreDriven, Drives}
-use Rattle.vcpu_run.specs.Received.{AreFresh}
+use Rattle.vcpu_run.specs.Received.{AreNew}
 use Rattle.vcpu_run.proofs.Driving.{get_set_other, get_set_same}
 use Rattle.vcpu_run.proofs.Gone.{hears_driven}
 use Rattle.vcpu_run.proofs.Hearings.{hearing_on, listed_on, nth_on, turn_shown}
@@ -229,7 +229,7 @@ heard_driven size partition units records copies old new driven are = record {
 
 -- Before the first turn.
 pub heard_fresh : (size partition : ℕ) (units : List Unit) (records : Records) (copies : List CopyRecord) (pairs : List Pair) → records.history.items ≡ [] → records.grants.items ≡ []
-    → ((told : Told → Bool) → AreInOrder told size partition units records) → AreIdle units → ExplainNone units → AreUnused units → AreFresh pairs → AreHeard size partition units records copies pairs
+    → ((told : Told → Bool) → AreInOrder told size partition units records) → AreIdle units → ExplainNone units → AreUnused units → AreNew pairs → AreHeard size partition units records copies pairs
 heard_fresh size partition units records copies pairs no_rows no_lines order idle unrefused unused fresh = record {
   all = λ told tells. record { order = order told; written = subst (AreWritten told) (sym no_rows) tt };
   each = λ told tells k pair found. ∣ record {

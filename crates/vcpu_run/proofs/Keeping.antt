@@ -22,7 +22,7 @@ use Rattle.vscsi_client.specs.declared.TheConstants.{MIN_PAGES}
 use Rattle.vcpu_run.specs.declared.driver.Driver.{Driver}
 use Rattle.vcpu_run.specs.declared.pair.Pair.{Pair}
 use Rattle.vcpu_run.specs.LinesShow.{Sees, seen_at}
-use Rattle.vcpu_run.specs.Machines.{AllStay, KeepsDriver, Stays}
+use Rattle.vcpu_run.specs.Machines.{AllStay, KeepsDriver, KeepsEntries, Stays}
 use Rattle.block_server.specs.Makers.{AreNamed}
 use Rattle.vcpu_run.specs.Named.{absent_unit}
 use Rattle.vcpu_run.proofs.AnswersSeen.{responses_grow}
@@ -30,6 +30,7 @@ use Rattle.vcpu_run.proofs.LinesShown.{drives_sees, sees_on, sees_same}
 use Rattle.vcpu_run.proofs.PairNames.{names_driven, names_served, none_keeps}
 use Rattle.vcpu_run.specs.Pairs.{AreDriven, AreDrivers, ArePairs, Drives, GoesOn, IsCopyOf, IsDriver, IsPair}
 use Rattle.vcpu_run.proofs.Listed.{came_from, each_same, each_then, held_then}
+use Rattle.vcpu_run.proofs.ValuesBehind.{begins_self, begins_then}
 
 -- the copies of a unit stay lawful, and those that it made since are
 copies_stay : (old new : Pair) (before after : List CopyRecord) → new.server ≡ old.server
@@ -53,6 +54,7 @@ driver_stays old new driver place grows is =
       unit = unit ∙ is.unit;
       pages = subst (λ n. MIN_PAGES ≤ n) (sym size) is.pages;
       rows = subst (λ n. FitRows n driver.client) (sym size) is.rows;
+      slots = is.slots;
       answers = responses_grow (side_at (known_of old)) (side_at (known_of new)) grows driver.answers.items is.answers;
     })
 
@@ -166,6 +168,7 @@ stays_same pair = record {
   driver = driver_same pair.driver;
   own_unit = refl;
   client_unit = refl;
+  held = refl;
 }
 
 stays_then : (a b c : Pair) → Stays a b → Stays b c → Stays a c
@@ -177,6 +180,7 @@ stays_then a b c one two = record {
   driver = driver_then a.driver b.driver c.driver one.driver two.driver;
   own_unit = two.own_unit ∙ one.own_unit;
   client_unit = two.client_unit ∙ one.client_unit;
+  held = two.held ∙ one.held;
 }
 
 drives_stays : (old new : Pair) → Drives old new → Stays old new
@@ -188,17 +192,26 @@ drives_stays old new d = record {
   driver = driver_goes old.window new.window old.driver new.driver d.driver;
   own_unit = ap (λ (window : WindowValue). window.unit) d.own;
   client_unit = d.unit;
+  held = d.held;
 }
 
 -- what there was at a pair is there
 abbrev SeesPair : Pair → Pair → Type 0
 SeesPair old new = Sees (seen_at old) (seen_at new)
 
+pub entries_same : (pair : Pair) → KeepsEntries pair pair
+entries_same pair entry = begins_self ((known_of pair.window).values entry)
+
+entries_then : (a b c : Pair) → KeepsEntries a b → KeepsEntries b c → KeepsEntries a c
+entries_then a b c one two entry =
+    begins_then ((known_of a.window).values entry) ((known_of b.window).values entry) ((known_of c.window).values entry) (one entry) (two entry)
+
 pub all_same : (pairs : List Pair) → AllStay pairs pairs
 all_same pairs = record {
   count = refl;
   each = each_same Stays pairs stays_same;
   sees = each_same SeesPair pairs (λ pair. sees_same (seen_at pair));
+  values = each_same KeepsEntries pairs entries_same;
 }
 
 pub all_then : (a b c : List Pair) → AllStay a b → AllStay b c → AllStay a c
@@ -206,6 +219,7 @@ all_then a b c one two = record {
   count = two.count ∙ one.count;
   each = each_then Stays a b c stays_then one.each two.each;
   sees = each_then SeesPair a b c (λ x y z. sees_on (seen_at x) (seen_at y) (seen_at z)) one.sees two.sees;
+  values = each_then KeepsEntries a b c entries_then one.values two.values;
 }
 
 pub driven_stay : (old new : List Pair) → AreDriven old new → AllStay old new
@@ -213,4 +227,5 @@ driven_stay old new d = record {
   count = d.count;
   each = λ k pair found. held_then (Drives pair) (Stays pair) (slice_get new k) (drives_stays pair) (d.each k pair found);
   sees = λ k pair found. held_then (Drives pair) (SeesPair pair) (slice_get new k) (drives_sees pair) (d.each k pair found);
+  values = λ k pair found. held_then (Drives pair) (KeepsEntries pair) (slice_get new k) (λ later drives. drives.grows.values) (d.each k pair found);
 }

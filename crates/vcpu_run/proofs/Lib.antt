@@ -10,6 +10,7 @@ pub mod Askings
 pub mod Blocks
 pub mod Booted
 pub mod Calls
+pub mod CallRecords
 pub mod CalledPorts
 pub mod CalmTurns
 pub mod Calming
@@ -35,7 +36,12 @@ pub mod Driving
 pub mod Elsewhere
 pub mod DropsKept
 pub mod DropsShown
+pub mod ShutAtRest
+pub mod ShutKept
+pub mod ShutShown
+pub mod ShutTold
 pub mod DropsStay
+pub mod EndedShown
 pub mod EventsHeard
 pub mod Fetching
 pub mod FewEvents
@@ -66,6 +72,7 @@ pub mod InSessions
 pub mod Keeping
 pub mod Lasting
 pub mod Lined
+pub mod LinesRead
 pub mod LinesShown
 pub mod Listed
 pub mod Logging
@@ -77,6 +84,7 @@ pub mod LoginsTold
 pub mod Losing
 pub mod Makers
 pub mod Marked
+pub mod MomentsThen
 pub mod Naming
 pub mod Opened
 pub mod OpenRounds
@@ -87,6 +95,7 @@ pub mod OwnLines
 pub mod PairNames
 pub mod Parts
 pub mod PortAddresses
+pub mod PortAmong
 pub mod PortBytes
 pub mod Placing
 pub mod PortCalling
@@ -99,6 +108,7 @@ pub mod PortOffering
 pub mod PortOrder
 pub mod PortPosting
 pub mod PortPutting
+pub mod PortRanges
 pub mod PortReplaying
 pub mod PortRising
 pub mod PortTelling
@@ -113,6 +123,7 @@ pub mod QueueLaws
 pub mod RawCalling
 pub mod RawReturned
 pub mod RawSaid
+pub mod Reached
 pub mod Receiving
 pub mod RecordLaws
 pub mod RefusalsTold
@@ -132,6 +143,7 @@ pub mod SentTo
 pub mod ServersKept
 pub mod Settling
 pub mod Showing
+pub mod SlotsKept
 pub mod Sole
 pub mod StepDrives
 pub mod TagsKept
@@ -152,6 +164,7 @@ pub mod TurnsPut
 pub mod TurnOrder
 pub mod TurnRest
 pub mod Unfreed
+pub mod ValuesBehind
 pub mod ValuesKept
 pub mod Waiting
 pub mod WindowDrives

@@ -1,5 +1,5 @@
 -- What there is once a line said that it sent a request, or wrote into its region, and that it is there as long as the run goes on.
-use Rattle.std.proofs.Common.{◌≡◌, ◌≢◌, ◌∙◌, ◌⊎◌, inl, inr, ℕ, zero, suc, ◌+◌, ◌==◌, ◌<◌, ◌≤◌, All, filter, get_or, map, nat_lt, cond, Bool, true, false, List, [], ◌∷◌, ◌++◌, Option, Some, None, Result, Ok, Err, Contains, IfOk, IfSome, MatchBool, length, refl, sym, ap, subst, arith, slice_get, append_assoc}
+use Rattle.std.proofs.Common.{◌≡◌, ◌≢◌, ◌∙◌, ◌⊎◌, inl, inr, ℕ, zero, suc, ◌+◌, ◌==◌, ◌<◌, ◌≤◌, All, filter, get_or, map, nat_lt, cond, Bool, true, false, List, [], ◌∷◌, ◌++◌, Option, Some, None, Result, Ok, Err, Contains, IfOk, IfSome, IsSome, MatchBool, length, refl, sym, ap, subst, arith, slice_get, append_assoc}
 use Rattle.std.specs.Borrow.{GName}
 use Rattle.std.specs.List.{flat_map}
 use Rattle.std.proofs.lemmas.Bool.{eq-eqb}
@@ -40,14 +40,14 @@ use Rattle.vscsi_client.specs.declared.answers.Refused.{Refused}
 use Rattle.vscsi_client.specs.declared.op.Op.{Op}
 use Rattle.unit_region.specs.Answers.{AnswersRead, AnswersWrite}
 use Rattle.unit_region.specs.Kept.{LaysOwnOn}
-use Rattle.unit_region.proofs.Laws.{if_bytes, if_done, once_read, read_there as was_read, write_there as wrote_there}
+use Rattle.unit_region.proofs.Laws.{front_of, if_bytes, if_done, read_there as was_read, write_there as wrote_there}
 use Rattle.unit_region.specs.Steps.{IsPlain, is_plain}
 use Rattle.unit_region.specs.declared.step.Step.{Step}
 use Rattle.unit_region.specs.declared.step.Step.TheVariants as steps
 use Rattle.vcpu_run.specs.declared.pair.Pair.{Pair}
 use Rattle.vcpu_run.specs.Commands.{IsOpOf, cdb_of}
 use Rattle.vcpu_run.specs.AnswersSeen.{IsFront}
-use Rattle.vcpu_run.specs.LinesShow.{AreRead, AreWritten, IsCommandOf, IsOn, IsPut, IsSent, IsFurtherShown, IsSentIf, IsReadIf, IsShown, IsUnitOf, IsWrittenIf, LinesShow, PairShows, Placed, RegionShows, region_of, Seen, Sees, StepShows, further_of, read_by, requests, seen_at, seen_by, written_by, PutsOne, seen_between, seen_since}
+use Rattle.vcpu_run.specs.LinesShow.{AreRead, AreWritten, IsCommandOf, IsOn, IsPut, IsSent, IsFurtherShown, IsSentIf, IsReadIf, IsShown, IsUnitOf, IsWrittenIf, LinesShow, PairShows, Placed, RegionShows, region_of, Seen, Sees, StepShows, further_of, read_by, requests, seen_at, seen_by, seen_now, written_by, PutsOne, seen_between, seen_since}
 use Rattle.vcpu_run.specs.Pairs.{Drives}
 use Rattle.vcpu_run.specs.Sendings.{SaysSent}
 use Rattle.vcpu_run.specs.Sessions.{entries_of, session_rows, sessions_from}
@@ -278,7 +278,7 @@ contains_first x rest = (zero, omega arith, refl)
 
 -- what there is in a window, with these entries
 abbrev pub seen_there : PortState → (Entry → Type 0) → Seen
-seen_there port entries = record { stroke_at = λ page stroke. IsOn stroke (port.strokes page); front_at = λ page front. IsFront front (port.strokes page); value_at = λ entry value. Contains (port.values entry) value; entry_put = entries }
+seen_there port entries = record { stroke_at = λ page stroke. IsOn stroke (port.strokes page); front_at = λ page front. (front ≡ port.strokes page) × IsSome front; value_at = λ entry value. Contains (port.values entry) value; entry_put = entries }
 
 pub write_there : (shared : Bool) (old new : PortState) (at mark : ℕ) (bytes : List ℕ) (entries : Entry → Type 0) → Writes shared old at bytes mark new
     → AreWritten (seen_there new entries) old.place.unit mark at bytes
@@ -288,7 +288,7 @@ write_there shared old new at mark bytes entries is = wrote_there shared old new
 abbrev row_of : Ports → Entry → PipeRow
 row_of new entry = record { session = new.crq.counts.partner_session; entry = entry }
 
-next_within : (s : ClientState) (slot : ℕ) → IsNextSlot s slot → slot < SLOTS
+pub next_within : (s : ClientState) (slot : ℕ) → IsNextSlot s slot → slot < SLOTS
 next_within s slot (inl is) = is.within
 next_within s slot (inr is) = is.within
 
@@ -408,7 +408,7 @@ write_shows shared old new at mark bytes entries verb (Err memory) no_request is
 
 -- a line that reads bytes of the region
 pub read_there : (new : PortState) (at : ℕ) (shown : List ℕ) (entries : Entry → Type 0) → Reads new at shown → AreRead (seen_there new entries) at shown
-read_there new at shown entries is = once_read new.strokes at shown (was_read new at shown is)
+read_there new at shown entries is = was_read new at shown is
 
 pub read_shows : (old new : PortState) (unit : UnitId) (at len mark : ℕ) (entries : Entry → Type 0) (verb : Verb) (result : Result Step NoMemory) → requests verb ≡ false
     → written_by verb ≡ None → read_by verb ≡ Some at → further_of verb ≡ None → IfOk result (AnswersRead old new at len) → StepShows (seen_there new entries) unit mark verb result
@@ -417,7 +417,7 @@ read_shows old new unit at len mark entries verb (Ok (steps.Ends outcome)) no_re
       subst (λ b. MatchBool b (IsSentIf seen unit mark verb outcome) (RegionShows seen unit mark (written_by verb) (read_by verb) outcome)) (sym no_request)
           (subst (λ (o : Option Placed). RegionShows seen unit mark o (read_by verb) outcome) (sym no_bytes)
           (subst (λ (o : Option ℕ). RegionShows seen unit mark None o outcome) (sym is)
-          (tt, if_bytes (region_of seen) at new len old (λ shown is. once_read new.strokes at shown (was_read new at shown is)) outcome answer))),
+          (tt, if_bytes (region_of seen) at new len old (λ shown is. was_read new at shown is) outcome answer))),
       no_further seen (further_of verb) outcome none,
     )
 read_shows old new unit at len mark entries verb (Ok (steps.Waits did)) no_request no_bytes is none answer = tt
@@ -426,10 +426,10 @@ read_shows old new unit at len mark entries verb (Err memory) no_request no_byte
 -- what a driver sees is there at its pair: an entry that was put in a registered queue was put in a session
 pub home_sees : (pair : Pair) (port : PortState) (end : EndState) → port.strokes ≡ strokes_at pair.window.pages → port.values ≡ (known_of pair.window).values → end.sent ≡ (side_of pair.link true).queue.sent
     → end.counts.partner_session ≡ (side_of pair.link true).queue.session → end.place.partner_registered ≡ (side_of pair.link true).registered
-    → Sees (seen_by false port end) (seen_at pair)
+    → Sees (seen_by false port end) (seen_now pair)
 home_sees pair port end strokes values sent session registered = record {
   strokes = λ page stroke is. subst (λ (at : ℕ → Option (List StrokeValue)). IsOn stroke (at page)) strokes is;
-  fronts = λ page front is. subst (λ (at : ℕ → Option (List StrokeValue)). IsFront front (at page)) strokes is;
+  fronts = λ page front is. (is.0 ∙ ap (λ (at : ℕ → Option (List StrokeValue)). at page) strokes, is.1);
   values = λ entry value is. subst (λ (at : ℕ → List ℕ). Contains (at entry) value) values is;
   entries = λ entry is. record {
     row = record { session = end.counts.partner_session; entry = entry };
@@ -614,10 +614,19 @@ stroke_shown size page stroke strokes shown grows on = at (nat_lt page size) gro
     at false more = absurd (grown_on stroke strokes None more on)
 
 -- a step at the pair where a client sits
-pub end_sees : (pair : Pair) (lenders : List GName) (first : Bool) → first ≡ false → Sees (seen_by false (known_of pair.window) (end_of lenders pair.link first)) (seen_at pair)
+pub end_sees : (pair : Pair) (lenders : List GName) (first : Bool) → first ≡ false → Sees (seen_by false (known_of pair.window) (end_of lenders pair.link first)) (seen_now pair)
 end_sees pair lenders first is =
-    subst (λ b. Sees (seen_by false (known_of pair.window) (end_of lenders pair.link b)) (seen_at pair)) (sym is)
+    subst (λ b. Sees (seen_by false (known_of pair.window) (end_of lenders pair.link b)) (seen_now pair)) (sym is)
     (home_sees pair (known_of pair.window) (end_of lenders pair.link false) refl refl refl refl refl)
+
+-- what is there now is there
+pub now_sees : (pair : Pair) → Sees (seen_now pair) (seen_at pair)
+now_sees pair = record {
+  strokes = λ page stroke is. is;
+  fronts = λ page front is. subst (IsFront front) is.0 (front_of front is.1);
+  values = λ entry value is. is;
+  entries = λ entry is. is;
+}
 
 -- a step behind others that put nothing
 pub since_from : (shared : Bool) (port : PortState) (old mid new : EndState) → mid.sent ≡ old.sent → Sees (seen_since shared port mid new) (seen_since shared port old new)
@@ -661,7 +670,7 @@ pair_shows old new x y f g lent who line result same first next unit shows =
 pub between_sees : (old new : Pair) → Sees (seen_between old new) (seen_at new)
 between_sees old new = record {
   strokes = λ page stroke is. is;
-  fronts = λ page front is. is;
+  fronts = λ page front is. subst (IsFront front) is.0 (front_of front is.1);
   values = λ entry value is. is;
   entries = λ entry put. record {
     row = put.row;

@@ -15,10 +15,7 @@ use Rattle.vcpu_run.specs.Lines.{lines_to_fail, numbers_to_fail, place_behind}
 use Rattle.vcpu_run.specs.Pairs.{AreDriven}
 use Rattle.vcpu_run.specs.Scripts.{AreLogged, IsScript}
 use Rattle.vcpu_run.specs.Works.{fails}
-use Rattle.vcpu_run.specs.CallsSaid.{seen_from}
-use Rattle.vcpu_run.proofs.CallsGrow.{calls_more, seen_grows}
 use Rattle.vcpu_run.proofs.Driving.{some_is, still_seats}
-use Rattle.vcpu_run.proofs.Keeping.{driven_stay}
 
 -- a front with the element behind it is a front
 one_more : (front rest : List ℕ) (x : ℕ) → slice_get (front ++ rest) (length front) ≡ Some x → Begins (front ++ x ∷ []) (front ++ rest)
@@ -110,8 +107,6 @@ script_stays old new script driven is = record {
   in_order = is.in_order;
   at = is.at;
   logs = is.logs;
-  called = calls_more (seen_from script.partition script.seats.items old) (seen_from script.partition script.seats.items new) script.lines.now script.logs.items
-      (seen_grows script.partition script.seats.items old new (driven_stay old new driven)) is.called;
 }
 
 pub script_steps : (old new : List Pair) (script : Script) (progress : Progress) → AreDriven old new → IsScript old script
@@ -122,8 +117,6 @@ script_steps old new script progress driven is = record {
   in_order = is.in_order;
   at = is.at;
   logs = is.logs;
-  called = calls_more (seen_from script.partition script.seats.items old) (seen_from script.partition script.seats.items new) script.lines.now script.logs.items
-      (seen_grows script.partition script.seats.items old new (driven_stay old new driven)) is.called;
 }
 
 -- the current line

@@ -16,7 +16,7 @@ use Rattle.crq_session.specs.PlainState.{end_of, side_of}
 use Rattle.crq_session.specs.declared.link.PlainLink.{PlainLink}
 use Rattle.block_server.specs.Owed.{IsEventAhead, IsEventKept, IsLossAhead, SeesAnswers}
 use Rattle.vcpu_run.specs.declared.pair.Pair.{Pair}
-use Rattle.vcpu_run.specs.Announces.{IsAmong, IsOnItsWay, IsTold}
+use Rattle.vcpu_run.specs.Announces.{IsAmong, IsOnItsWay, IsAnnounced}
 use Rattle.vcpu_run.specs.Answered.{IsBehind}
 use Rattle.vcpu_run.specs.Pairs.{Drives}
 use Rattle.vcpu_run.specs.Sessions.{entries_of}
@@ -188,7 +188,7 @@ sees_driven old new d is = record {
         → ((side_of old.link false).registered ≡ false) ⊎ IsLossAhead (end_of [] new.link true)
     gone on off false e = inl e
     gone on off true e =
-        let told : IsTold d.puts.rows (end_of [] new.link false) = d.puts.freed e off on in
+        let told : IsAnnounced d.puts.rows (end_of [] new.link false) = d.puts.freed e off on in
         inr (record { registered = d.server_registered ∙ on; comes = comes_by old new d told.0 is told.1 told.2 })
 
 -- the same link, by whatever borrow its end is reached

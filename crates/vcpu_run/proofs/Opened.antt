@@ -13,6 +13,8 @@ use Rattle.tce_window.specs.Window.{WindowValue, blank_page, strokes_at}
 use Rattle.block_server.specs.SiteState.{AreReady}
 use Rattle.vscsi_client.specs.State.{ClientState, new_client}
 use Rattle.vscsi_client.specs.Transferred.{FitsRow}
+use Rattle.vcpu_run.specs.ClientSlots.{HoldsSlots}
+use Rattle.vcpu_run.proofs.SlotsKept.{slots_none}
 use Rattle.vcpu_run.specs.AnswersSeen.{AreResponsesRead, IsResponseRead, fronts_of}
 use Rattle.unit_region.specs.RegionLines.{IsOn}
 use Rattle.vcpu_run.specs.EventsHeard.{events_waiting}
@@ -23,7 +25,7 @@ use Rattle.page_slots.specs.Stroke.{StrokeValue}
 use Rattle.rdma_copy.specs.Copies.{side_of as side_at}
 use Rattle.vcpu_run.specs.Named.{HasNames, LeavesAlone, absent_unit}
 use Rattle.vcpu_run.specs.Pairs.{IsCopyOf, IsDriver, IsPair}
-use Rattle.vcpu_run.specs.TakenScripts.{IsUntaken}
+use Rattle.vcpu_run.specs.TakenScripts.{HasTakenNone}
 use Rattle.vcpu_run.specs.Takings.{waiting}
 
 -- a window of so many pages, before any call
@@ -67,6 +69,7 @@ driver_new unit server pages window driver new unit_is none client least most =
       unit = ap (λ (w : WindowValue). w.unit) new ∙ sym unit_is;
       pages = omega arith;
       rows = (omega arith, subst (λ (s : ClientState). All (FitsRow (length window.pages)) s.rows) (sym client) (All-nil (FitsRow (length window.pages))));
+      slots = subst HoldsSlots (sym client) (slots_none (new_client unit server) refl refl);
       answers = subst (AreResponsesRead (fronts_of (strokes_at window.pages))) (sym none) (All-nil (IsResponseRead (fronts_of (strokes_at window.pages))));
     }
 
@@ -94,7 +97,7 @@ names_new pair server pages client own window = record {
 
 -- a client that has sent nothing and has taken no answer
 pub untaken_new : (unit server : UnitId) (slots_a slots_b : ℕ) (link : PlainLink) (driver : Driver) → driver.answers.items ≡ [] → driver.client ≡ new_client unit server
-    → IsNewLink link slots_a slots_b → IsUntaken server (side_of link false).queue.taken driver
+    → IsNewLink link slots_a slots_b → HasTakenNone server (side_of link false).queue.taken driver
 untaken_new unit server slots_a slots_b link driver answers client new = record {
   answers = answers;
   rows = ap (λ (s : ClientState). s.rows) client;
@@ -104,6 +107,7 @@ untaken_new unit server slots_a slots_b link driver answers client new = record 
   events = ap events_waiting client;
   server = ap (λ (s : ClientState). s.server) client;
   none = new.second.queue.taken;
+  blank = record { granted = ap (λ (s : ClientState). s.granted) client; held = ap (λ (s : ClientState). s.held) client };
 }
 
 -- A server unit, with this client or none.

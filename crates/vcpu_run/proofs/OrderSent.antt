@@ -17,6 +17,8 @@ use Rattle.unit_region.specs.declared.step.Step.TheVariants as steps
 use Rattle.vcpu_run.specs.declared.pair.Pair.{Pair}
 use Rattle.vcpu_run.specs.declared.script.Script.{Script}
 use Rattle.vcpu_run.specs.DropsShown.{IsFullAt, LinesFull, PairShowsLine}
+use Rattle.vcpu_run.specs.ShutShown.{HadEnd, LinesShut, SaysShut}
+use Rattle.vcpu_run.proofs.ShutKept.{had_on, lines_shut_more, lines_shut_next}
 use Rattle.vcpu_run.specs.LinesShow.{IsSent, IsSentIf, LinesShow, PairPutsOne, PairShows, RegionShows, Seen, Sees, read_by, requests, seen_at, seen_between, written_by}
 use Rattle.vcpu_run.specs.ScriptTold.{PairShown, PutsMore}
 use Rattle.vcpu_run.specs.SentOrder.{AreSentIn, IsNextSent, entries_begun, entries_put, is_begun, said_tag, tag_sent, with_entry}
@@ -251,13 +253,15 @@ shown_on script unit old new who sees more is =
           (subst (λ (list : List Entry). AreSentIn (seen_at new) old.window.unit unit script.lines.now script.logs.items list) (sym grown.1)
           (order_more (seen_at old) (seen_at new) old.window.unit unit script.lines.now script.logs.items (entries_put old) grown.0 sees is.order));
       drops = lines_full_more (IsFullAt old) (IsFullAt new) unit script.lines.now script.logs.items (full_on old new more) is.drops;
+      shut = lines_shut_more (HadEnd old.link) (HadEnd new.link) unit script.lines.now script.logs.items (had_on old.link new.link more.3) is.shut;
     }
 
 -- and with what a line did that ended
 pub one_shown : (script done : Script) (unit : ℕ) (old new : Pair) (line : Line) (row : LogRow) → slice_get script.lines.now script.at ≡ Some line → length script.logs.items ≡ script.at
     → done.lines ≡ script.lines → done.logs.items ≡ script.logs.items ++ row ∷ [] → new.window.unit ≡ old.window.unit → Sees (seen_at old) (seen_at new) → PutsMore old new
-    → (line.unit ≡ unit → PairShowsLine line old new (Ok (steps.Ends row.outcome))) → PairShown script unit old → PairShown done unit new
-one_shown script done unit old new line row found many lines logs who sees more last is =
+    → (line.unit ≡ unit → PairShowsLine line old new (Ok (steps.Ends row.outcome))) → (line.unit ≡ unit → SaysShut (HadEnd new.link) line.verb row.outcome) → PairShown script unit old
+    → PairShown done unit new
+one_shown script done unit old new line row found many lines logs who sees more last ends is =
     let here : slice_get script.lines.now (length script.logs.items) ≡ Some line = ap (slice_get script.lines.now) many ∙ found in
     let show : LinesShow (seen_at new) new.window.unit unit script.lines.now (script.logs.items ++ row ∷ []) =
     lines_next (seen_at new) new.window.unit unit script.lines.now script.logs.items line row here (shown_on script unit old new who sees more is).show
@@ -266,6 +270,8 @@ one_shown script done unit old new line row found many lines logs who sees more 
     order_next old new unit script.lines.now script.logs.items line row here who sees more (λ test. (last (eqb-true line.unit unit test)).0) is.order in
     let drops : LinesFull (IsFullAt new) unit script.lines.now (script.logs.items ++ row ∷ []) =
     lines_full_next (IsFullAt new) unit script.lines.now script.logs.items line row here (shown_on script unit old new who sees more is).drops (λ same. (last same).1) in
+    let shut : LinesShut (HadEnd new.link) unit script.lines.now (script.logs.items ++ row ∷ []) =
+    lines_shut_next (HadEnd new.link) unit script.lines.now script.logs.items line row here (shown_on script unit old new who sees more is).shut ends in
     record {
       show = subst (λ ls. LinesShow (seen_at new) new.window.unit unit ls.now done.logs.items) (sym lines)
           (subst (λ (rows : List LogRow). LinesShow (seen_at new) new.window.unit unit script.lines.now rows) (sym logs) show);
@@ -273,4 +279,6 @@ one_shown script done unit old new line row found many lines logs who sees more 
           (subst (λ (rows : List LogRow). AreSentIn (seen_at new) new.window.unit unit script.lines.now rows (entries_put new)) (sym logs) order);
       drops = subst (λ ls. LinesFull (IsFullAt new) unit ls.now done.logs.items) (sym lines)
           (subst (λ (rows : List LogRow). LinesFull (IsFullAt new) unit script.lines.now rows) (sym logs) drops);
+      shut = subst (λ ls. LinesShut (HadEnd new.link) unit ls.now done.logs.items) (sym lines)
+          (subst (λ (rows : List LogRow). LinesShut (HadEnd new.link) unit script.lines.now rows) (sym logs) shut);
     }

@@ -333,7 +333,7 @@ macs_step lan lan' script ended line row done' found reached partition lines sea
         → (b ≡ true → EndsPorts script.partition line.verb lan lan' (steps.Ends row.outcome))
         → (b ≡ false → TellsStep script.partition script.seats.items line (done_in script.progress) done' lan lan' (steps.Ends row.outcome))
         → EndsLine script.partition unit line row lan lan'
-    by unit sat true h k = called unit (h refl unit)
+    by unit sat true h k = called unit ((h refl).1 unit)
     by unit sat false h k = record {
       given = own_given (line.unit == unit) line.verb row.outcome;
       ends = step_mac (line.unit == unit) (unit_of script.partition unit) line.verb row.outcome (done_in script.progress) done' lan lan' ((k refl).rises unit sat);

@@ -28,7 +28,7 @@ use Rattle.vcpu_run.specs.declared.script.Script.{Script}
 use Rattle.vcpu_run.specs.declared.unit_seat.Seat.TheVariants as sits
 use Rattle.vcpu_run.specs.Credited.{Ended, ended_by}
 use Rattle.vcpu_run.specs.Ports.{unit_of}
-use Rattle.vcpu_run.specs.PortBytes.{KeepsBytes, NamesOwnPages, StepBytes, StepSends, bytes_told, frame_by, lends_other, mac_or, present_behind}
+use Rattle.vcpu_run.specs.PortBytes.{KeepsBytes, NamesOwnPages, StepBytes, StepSendsBytes, bytes_told, frame_by, lends_other, mac_or, present_behind}
 use Rattle.vcpu_run.specs.PortReplays.{IsStill, sent_at}
 use Rattle.vcpu_run.specs.PortSteps.{AllSilent, AllTake, AreFresh, IsIdle, IsSilent, RisesIf, TellsStep}
 use Rattle.vcpu_run.specs.PortWords.{HasNoCall, TellsBytes, done_in}
@@ -59,7 +59,7 @@ set_is None old new present m h e was = was m (subst (λ (o : Option Mac). SetsM
 set_is (Some to) old new present m h e was = subst (λ (o : Option Mac). SetsMacOf (Some to) (mac_in old.settings) o) e h
 
 -- the frame of a line is from the present address
-sends_line : (unit : UnitId) (verb : Verb) (outcome : Outcome) (present : Mac) (lan lan' : LanValue) → StepSends unit verb lan lan' (steps.Ends outcome)
+sends_line : (unit : UnitId) (verb : Verb) (outcome : Outcome) (present : Mac) (lan lan' : LanValue) → StepSendsBytes unit verb lan lan' (steps.Ends outcome)
     → ((m : Mac) → mac_at lan unit ≡ Some m → m ≡ present) → bytes_sent lan' unit ≡ bytes_sent lan unit ++ frame_by present verb outcome
 sends_line unit (verbs.Send to len seed at) (outcomes.Frame code number) present lan lan' h is =
     h.bytes ∙ ap (λ (m : Mac). bytes_sent lan unit ++ line_frame to m (len - 14) seed ∷ []) (is h.from h.present)

@@ -1,7 +1,8 @@
 -- What raw calls return of the entries of LAN units' windows, and what they leave of these.
-use Rattle.std.proofs.Common.{◌≡◌, ◌∙◌, ℕ, Bool, true, false, List, Option, Some, None, Result, Ok, Err, IfOk, IfSome, IsSome, OnOk, length, option_map, refl, sym, ap, subst}
+use Rattle.std.proofs.Common.{◌≡◌, ◌∙◌, ℕ, Bool, true, false, List, Option, Some, None, Result, Ok, Err, IfOk, IfSome, IsSome, OnOk, drop, length, option_map, refl, sym, ap, subst}
 use Rattle.std.specs.Prelude.{⊤}
 use Rattle.std.specs.List.{Contains, slice_get}
+use Rattle.vio_num.specs.Words.{Begins}
 use Rattle.vio_num.specs.declared.hypervisor.Hrc.TheVariants as codes
 use Rattle.vio_num.specs.declared.memory.NoMemory.{NoMemory}
 use Rattle.vio_num.specs.declared.names.UnitId.{UnitId}
@@ -22,7 +23,9 @@ use Rattle.lan_script.specs.Entries.{CallsOne, ValuesGrow, values_at, window_see
 use Rattle.lan_script.specs.Regions.{strokes_at}
 use Rattle.vcpu_run.specs.PortRegions.{RegionsKept}
 use Rattle.vcpu_run.proofs.PortKept.{kept_same}
-use Rattle.unit_region.specs.RegionLines.{region_once}
+use Rattle.unit_region.specs.RegionLines.{region_seen}
+use Rattle.unit_region.proofs.Laws.{read_there}
+use Rattle.lan_script.specs.Windows.{begins_in}
 use Rattle.lan_script.specs.Seats.{seat_at}
 use Rattle.lan_script.specs.Units.{LanValue}
 use Rattle.lan_script.specs.Values.{SameValuesBeside}
@@ -41,8 +44,8 @@ use Rattle.vcpu_run.specs.Ports.{unit_of}
 use Rattle.vcpu_run.specs.RawCalls.{AnswersCall, AnswersPorts, IsThere, PortsReturn, place_of, seat_by, seat_in}
 use Rattle.vcpu_run.specs.Suited.{is_call}
 use Rattle.vcpu_run.proofs.ClientCalls.{entry_seen}
-use Rattle.vcpu_run.proofs.LinesShown.{begins_has}
 use Rattle.vcpu_run.proofs.RawReturned.{unit_says, unsaid}
+use Rattle.vcpu_run.proofs.ValuesBehind.{begins_as, begins_self}
 
 -- ---- a call at a LAN unit
 
@@ -59,27 +62,28 @@ port_returned id call old new returned there seats answer is = by (seat_at old.s
         subst (λ (o : Option PortSeat). IsReturned (record {
           pages = option_map (λ (seat : PortSeat). seat.pages) o;
           value_at = λ entry value. Contains (values_at new id entry) value;
-          region = region_once (strokes_at new id);
+          put_at = λ entry value. Contains (drop 1 (values_at new id entry)) value;
+          region = region_seen (strokes_at new id);
+          is_held = ⊥;
           entry_put = λ entry. ⊤;
         }) (entry_row call) (entry_arguments call) returned) (sym (ap (λ ss. seat_at ss id) seats ∙ e))
-        (entry_seen (window_seen old id) (window_seen new id) seat.pages (values_at new id) (strokes_at new id) (λ entry. ⊤) (Some seat) call returned size refl refl answer is.answers)
+        (entry_seen (window_seen old id) (window_seen new id) seat.pages (values_at new id) (region_seen (strokes_at new id)) ⊥ (λ entry. ⊤) (Some seat) call returned size
+        (λ entry. subst (λ (o : Option ℕ). IsSome o) (sym (begins_in old.places id entry)) refl) refl (read_there (window_seen new id)) is.free answer is.answers)
 
 -- all values stay, where those of one unit grow and those of the others stay
-has_values : (id : UnitId) (old new : LanValue) → ValuesGrow id old new → SameValuesBeside id old new
-    → (unit : UnitId) (entry value : ℕ) → Contains (values_at old unit entry) value → Contains (values_at new unit entry) value
-has_values id old new grows beside unit entry value has =
-    by_bool (same_unit unit id) (Contains (values_at new unit entry) value)
-    (λ e. subst (λ (u : UnitId). Contains (values_at new u entry) value) (sym (one_unit unit id e))
-    (begins_has (values_at old id entry) (values_at new id entry) value (grows entry)
-    (subst (λ (u : UnitId). Contains (values_at old u entry) value) (one_unit unit id e) has)))
-    (λ e. subst (λ (l : List ℕ). Contains l value) (sym (beside unit e entry)) has)
+keeps_values : (id : UnitId) (old new : LanValue) → ValuesGrow id old new → SameValuesBeside id old new
+    → (unit : UnitId) (entry : ℕ) → Begins (values_at old unit entry) (values_at new unit entry)
+keeps_values id old new grows beside unit entry =
+    by_bool (same_unit unit id) (Begins (values_at old unit entry) (values_at new unit entry))
+    (λ e. subst (λ (u : UnitId). Begins (values_at old u entry) (values_at new u entry)) (sym (one_unit unit id e)) (grows entry))
+    (λ e. begins_as (values_at old unit entry) (values_at new unit entry) (beside unit e entry))
 
 has_all : (id : UnitId) (old new : LanValue) → ValuesGrow id old new → SameValuesBeside id old new → RegionsKept old new → HasAll old new
-has_all id old new grows beside regions = record { values = has_values id old new grows beside; regions = regions }
+has_all id old new grows beside regions = record { values = keeps_values id old new grows beside; regions = regions }
 
 pub same_all : (old new : LanValue) → new ≡ old → HasAll old new
 same_all old new same =
-    subst (HasAll old) (sym same) (record { values = λ unit entry value has. has; regions = λ unit. kept_same old unit })
+    subst (HasAll old) (sym same) (record { values = λ unit entry. begins_self (values_at old unit entry); regions = λ unit. kept_same old unit })
 
 -- a port that sits there has its seat
 pub port_there : (units : PartitionUnits) (unit : ℕ) (id : UnitId) (o : Option Seat) → id ≡ unit_of units.partition unit → o ≡ Some sits.Port

@@ -10,7 +10,7 @@ use Rattle.boot_text.specs.declared.verb.Verb.{Verb}
 use Rattle.boot_text.specs.declared.verb.Verb.TheVariants as verbs
 use Rattle.page_slots.specs.Stroke.{StrokeValue}
 use Rattle.tce_window.specs.Port.{Grows}
-use Rattle.unit_region.specs.RegionLines.{IsFrontOn, IsOn, IsTold, RegionSeen, read_by, region_once, region_seen, written_by}
+use Rattle.unit_region.specs.RegionLines.{IsFrontOn, IsOn, IsTold, RegionSeen, read_by, region_seen, written_by}
 use Rattle.unit_region.proofs.Laws.{on_as, on_grows, on_self, on_then}
 use Rattle.unit_region.specs.declared.step.Step.{Step}
 use Rattle.unit_region.specs.declared.step.Step.TheVariants as steps
@@ -33,7 +33,7 @@ use Rattle.vcpu_run.specs.PortWords.{TellsLogged, TellsRegions, done_in}
 use Rattle.vcpu_run.specs.Ports.{unit_of}
 use Rattle.vcpu_run.specs.Suited.{is_call}
 use Rattle.vcpu_run.specs.Works.{fails}
-use Rattle.vcpu_run.proofs.LinesShown.{front_more, grown_more, grown_on, no_row, region_more, row_at}
+use Rattle.vcpu_run.proofs.LinesShown.{no_row, region_more, row_at}
 use Rattle.vcpu_run.proofs.Driving.{some_is}
 use Rattle.vcpu_run.proofs.Following.{ordered_from}
 use Rattle.vcpu_run.proofs.PortLogged.{LaidBy, ends_logged, none_laid, tells_laid}
@@ -44,16 +44,8 @@ use Rattle.vcpu_run.proofs.PortLogged.{LaidBy, ends_logged, none_laid, tells_lai
 abbrev pub seen_as : RegionSeen → Seen
 seen_as region = record { stroke_at = region.stroke_at; front_at = region.front_at; value_at = λ entry value. ⊤; entry_put = λ entry. ⊤ }
 
-pub region_sees : (old new : ℕ → Option (List StrokeValue)) → ((page : ℕ) → Grows true (old page) (new page)) → Sees (seen_as (region_once old)) (seen_as (region_once new))
-region_sees old new grow = record {
-  strokes = λ page stroke is. grown_on stroke (old page) (new page) (grow page) is;
-  fronts = λ page front is. front_more front (old page) (new page) (λ strokes e. grown_more strokes (old page) (new page) e (grow page)) is;
-  values = λ entry value is. is;
-  entries = λ entry is. is;
-}
-
 -- the same strokes
-region_same : (old new : ℕ → Option (List StrokeValue)) → ((page : ℕ) → new page ≡ old page) → Sees (seen_as (region_seen old)) (seen_as (region_seen new))
+pub region_same : (old new : ℕ → Option (List StrokeValue)) → ((page : ℕ) → new page ≡ old page) → Sees (seen_as (region_seen old)) (seen_as (region_seen new))
 region_same old new same = record {
   strokes = λ page stroke is. subst (IsOn stroke) (sym (same page)) is;
   fronts = λ page front is. (is.0 ∙ sym (same page), is.1);
@@ -71,7 +63,7 @@ told_sees a b pages unit mark verb outcome sees is = record {
 -- ---- moments
 
 -- of a page that has more strokes, where those of the unit's own bear later numbers
-pub moments_grown : (strokes strokes' : ℕ → Option (List StrokeValue)) (pages : ℕ) (who : UnitId) (lines : List Line) (rows : List LogRow)
+unfoldable pub moments_grown : (strokes strokes' : ℕ → Option (List StrokeValue)) (pages : ℕ) (who : UnitId) (lines : List Line) (rows : List LogRow)
     → ((i : ℕ) (line : Line) (row : LogRow) → slice_get lines i ≡ Some line → slice_get rows i ≡ Some row → (page : ℕ)
     → IsFrontOn who (λ mark. line.number < mark) (strokes page) (strokes' page))
     → LinesTold strokes pages who lines rows → LinesTold strokes' pages who lines rows
@@ -89,7 +81,7 @@ moments_grown strokes strokes' pages who lines rows more told = record {
 }
 
 -- the same strokes
-pub moments_same : (strokes strokes' : ℕ → Option (List StrokeValue)) (pages : ℕ) (who : UnitId) (lines : List Line) (rows : List LogRow)
+unfoldable pub moments_same : (strokes strokes' : ℕ → Option (List StrokeValue)) (pages : ℕ) (who : UnitId) (lines : List Line) (rows : List LogRow)
     → ((page : ℕ) → strokes' page ≡ strokes page) → LinesTold strokes pages who lines rows → LinesTold strokes' pages who lines rows
 moments_same strokes strokes' pages who lines rows same =
     moments_grown strokes strokes' pages who lines rows (λ i line row there at page.
@@ -101,10 +93,10 @@ has_place [] i x e = absurd (cc (e))
 has_place (first ∷ xs) zero x e = omega arith
 has_place (first ∷ xs) (suc i) x e = let h = has_place xs i x e in omega (arith, h)
 
-below_it : (i n : ℕ) → i < n → nat_lt i n ≡ true
+pub below_it : (i n : ℕ) → i < n → nat_lt i n ≡ true
 below_it i n less = grind (arith, nat_tests, less)
 
-not_below : (i n : ℕ) → i ≡ n → nat_lt i n ≡ false
+pub not_below : (i n : ℕ) → i ≡ n → nat_lt i n ≡ false
 not_below i n same = grind (arith, nat_tests, same)
 
 -- ---- one record more
@@ -125,7 +117,7 @@ lines_fresh strokes pages who lines = record {
   wrote = λ i line row there has own here page. absurd (no_row row has);
 }
 
-pub lines_one : (strokes : ℕ → Option (List StrokeValue)) (pages : ℕ) (who : UnitId) (lines : List Line) (rows : List LogRow) (line : Line) (row : LogRow)
+unfoldable pub lines_one : (strokes : ℕ → Option (List StrokeValue)) (pages : ℕ) (who : UnitId) (lines : List Line) (rows : List LogRow) (line : Line) (row : LogRow)
     → slice_get lines (length rows) ≡ Some line → LinesTold strokes pages who lines rows → EndsTold strokes pages who line row
     → LinesTold strokes pages who lines (rows ++ row ∷ [])
 lines_one strokes pages who lines rows line row found told last = record {
@@ -245,7 +237,7 @@ numbers_rise lines rows at i j a b turn here there less =
     in_turn (λ (x y : Line). x.number < y.number) lines i j a b (ordered_from (λ (x y : Line). x.number < y.number) lines turn.in_order) here there less
 
 -- of a step at the current line
-grown_by : (lines : List Line) (rows : List LogRow) (at : ℕ) (line : Line) (ends : Bool) (unit : UnitId) (lan lan' : LanValue) → AreInTurn lines rows at
+pub grown_by : (lines : List Line) (rows : List LogRow) (at : ℕ) (line : Line) (ends : Bool) (unit : UnitId) (lan lan' : LanValue) → AreInTurn lines rows at
     → slice_get lines at ≡ Some line → length rows ≡ at → LaidBy unit line ends lan lan'
     → (i : ℕ) (l : Line) (r : LogRow) → slice_get lines i ≡ Some l → slice_get rows i ≡ Some r → (page : ℕ)
     → IsFrontOn unit (λ mark. l.number < mark) (strokes_at lan unit page) (strokes_at lan' unit page)
@@ -255,7 +247,7 @@ grown_by lines rows at line ends unit lan lan' turn found reached laid i l r the
     (λ m is. omega (arith, less, is)) (laid.front page)
 
 -- of what laid nothing of the unit's own
-grown_still : (unit : UnitId) (lan lan' : LanValue) → RegionKept unit lan lan' → (number page : ℕ)
+pub grown_still : (unit : UnitId) (lan lan' : LanValue) → RegionKept unit lan lan' → (number page : ℕ)
     → IsFrontOn unit (λ mark. number < mark) (strokes_at lan unit page) (strokes_at lan' unit page)
 grown_still unit lan lan' kept number page =
     on_as unit (λ m. ⊥) (λ mark. number < mark) (strokes_at lan unit page) (strokes_at lan' unit page) (λ m never. absurd never) (kept.own page)
@@ -337,7 +329,7 @@ keeps_one lines rows at line row lan lan' unit turn found reached ends logged to
           };
         })
 
-rises_seats : (own : Bool) (unit : UnitId) (verb : Verb) (done done' : ℕ) (lan lan' : LanValue) (step : Step) → RisesIf own unit verb done done' lan lan' step
+pub rises_seats : (own : Bool) (unit : UnitId) (verb : Verb) (done done' : ℕ) (lan lan' : LanValue) (step : Step) → RisesIf own unit verb done done' lan lan' step
     → lan'.seats ≡ lan.seats
 rises_seats true unit verb done done' lan lan' step h = h.1.seats
 rises_seats false unit verb done done' lan lan' step h = h.still.seats
@@ -373,7 +365,7 @@ regions_wait lan lan' script script' line moved found same no_call step tells =
         (tells turn unit sat)
 
 -- the turn of a script whose line ended is that of the script before
-before_turn : (script ended : Script) (line : Line) → slice_get script.lines.now script.at ≡ Some line → length script.logs.items ≡ script.at → ended.lines ≡ script.lines
+pub before_turn : (script ended : Script) (line : Line) → slice_get script.lines.now script.at ≡ Some line → length script.logs.items ≡ script.at → ended.lines ≡ script.lines
     → AreInTurn ended.lines.now ended.logs.items ended.at → AreInTurn script.lines.now script.logs.items script.at
 before_turn script ended line found reached lines turn = record {
   in_order = subst (λ ls. AllPairs (λ (a b : Line). a.number < b.number) ls.now) lines turn.in_order;

@@ -14,6 +14,9 @@ use Rattle.vio_trace.specs.declared.outcome.Outcome.TheVariants as outcomes
 use Rattle.vio_trace.specs.declared.rows.LogRow.{LogRow}
 use Rattle.lan_script.specs.Buffers.{AddsBuffers, buffers_by, buffers_told, line_buffers, posted_at, posted_told}
 use Rattle.lan_script.specs.PortCounts.{PortCounts, counts, counts_by, counts_told}
+use Rattle.lan_script.specs.LineForms.{HasForm}
+use Rattle.lan_script.specs.Replayed.{is_replayed}
+use Rattle.lan_script.specs.Seats.{is_for_port}
 use Rattle.lan_script.specs.Taking.{StaysWithin}
 use Rattle.lan_script.specs.Units.{LanValue}
 use Rattle.lan_script.specs.declared.lines.PortStep.TheVariants as ports
@@ -23,21 +26,23 @@ use Rattle.vcpu_run.specs.declared.script.Script.{Script}
 use Rattle.vcpu_run.specs.declared.unit_seat.Seat.TheVariants as sits
 use Rattle.vcpu_run.specs.Credited.{Ended, ended_by}
 use Rattle.vcpu_run.specs.Ports.{unit_of}
-use Rattle.vcpu_run.specs.PortPosts.{AreWithin, EndsWithin, IsUnder, StepTakes, TakesNoMore, buffers_of, buffers_under}
+use Rattle.vcpu_run.specs.PortPosts.{AreInForm, EndsInForm, IsUnder, StepTakes, TakesNoMore, buffers_of, buffers_under}
 use Rattle.vcpu_run.specs.PortSteps.{AllSilent, AllTake, AreFresh, IsIdle, RisesIf, TakesOn, TellsStep}
 use Rattle.vcpu_run.specs.PortWords.{HasNoCall, TakesOwn, TellsBuffers, TellsTakes, buffers_now, done_in}
 use Rattle.vcpu_run.specs.Suited.{is_call}
+use Rattle.vcpu_run.specs.Works.{fails}
 use Rattle.vcpu_run.proofs.Crediting.{ended_more}
 use Rattle.vcpu_run.proofs.Logging.{all_at}
 
 -- what a step at a port says of a line that takes
-took_within : (count done : ℕ) (outcome : Outcome) → StaysWithin (verbs.Take count) done (ports.Ends outcome) → done ≤ count → EndsWithin (verbs.Take count) outcome
+took_within : (count done : ℕ) (outcome : Outcome) → StaysWithin (verbs.Take count) done (ports.Ends outcome) → done ≤ count → EndsInForm (verbs.Take count) outcome
 took_within count done (outcomes.Took taken) h less = h less
 took_within count done outcome h less = absurd h
 
-pub ends_within : (verb : Verb) (done : ℕ) (outcome : Outcome) → StaysWithin verb done (ports.Ends outcome) → TakesNoMore verb done → EndsWithin verb outcome
-ends_within (verbs.Take count) done outcome h less = took_within count done outcome h less
-ends_within verb done outcome h less = tt
+pub ends_within : (verb : Verb) (done : ℕ) (outcome : Outcome) → StaysWithin verb done (ports.Ends outcome) → HasForm verb outcome → TakesNoMore verb done
+    → EndsInForm verb outcome
+ends_within (verbs.Take count) done outcome h form less = took_within count done outcome h less
+ends_within verb done outcome h form less = form
 
 pub waits_within : (verb : Verb) (done far : ℕ) (moved : Moved) → StaysWithin verb done (ports.Waits moved far) → TakesNoMore verb done → TakesNoMore verb far
 waits_within (verbs.Take count) done far moved h less = h less
@@ -48,12 +53,12 @@ pub idle_posted : (lan lan' : LanValue) (unit : UnitId) → IsIdle lan lan' unit
 idle_posted lan lan' unit idle =
     posted_still unit (port_of lan.stations unit) (port_of lan'.stations unit) idle.still.grows (ap (λ (c : PortCounts). c.posts) idle.counts)
 
-takes_posted : (lan lan' : LanValue) (unit : UnitId) → TakesOn lan lan' unit → posted_at lan' unit ≡ posted_at lan unit
+pub takes_posted : (lan lan' : LanValue) (unit : UnitId) → TakesOn lan lan' unit → posted_at lan' unit ≡ posted_at lan unit
 takes_posted lan lan' unit takes = posted_still unit (port_of lan.stations unit) (port_of lan'.stations unit) takes.still.grows takes.posts
 
 -- ---- buffers
 
-buffers_more : (es : List Ended) (e : Ended) → buffers_of (es ++ e ∷ []) ≡ buffers_of es ++ buffers_told e.verb e.outcome
+pub buffers_more : (es : List Ended) (e : Ended) → buffers_of (es ++ e ∷ []) ≡ buffers_of es ++ buffers_told e.verb e.outcome
 buffers_more [] e = append-nil (buffers_told e.verb e.outcome)
 buffers_more (x ∷ es) e =
     ap (λ l. buffers_told x.verb x.outcome ++ l) (buffers_more es e) ∙ sym (append_assoc (buffers_told x.verb x.outcome) (buffers_of es) (buffers_told e.verb e.outcome))
@@ -73,7 +78,7 @@ PostsIf false script unit line row lan lan' = posted_at lan' (unit_of script.par
 no_call : (script : Script) (line : Line) → slice_get script.lines.now script.at ≡ Some line → HasNoCall script.lines.now → is_call line.verb ≡ false
 no_call script line found none = all_at (λ (l : Line). is_call l.verb ≡ false) script.lines.now script.at line found none
 
-none_under : (unit done : ℕ) (o : Option Line) → done ≡ 0 → buffers_under unit done o ≡ []
+pub none_under : (unit done : ℕ) (o : Option Line) → done ≡ 0 → buffers_under unit done o ≡ []
 none_under unit done None e = refl
 none_under unit done (Some line) e = by (line.unit == unit)
   where
@@ -161,7 +166,7 @@ buffers_step lan lan' script ended line row done' found reached partition lines 
     (λ no unit sat. step_posts lan lan' script line row done' unit (line.unit == unit) ((step no).rises unit sat))
 
 -- a line that posts none
-quiet_by : (verb : Verb) → ((d : ℕ) → counts_by verb d ≡ counts 0 0) → (d : ℕ) → buffers_by verb d ≡ []
+pub quiet_by : (verb : Verb) → ((d : ℕ) → counts_by verb d ≡ counts 0 0) → (d : ℕ) → buffers_by verb d ≡ []
 quiet_by (verbs.Post at len count) nothing d = ap (λ (n : ℕ). line_buffers at len n) (ap (λ (c : PortCounts). c.posts) (nothing d))
 quiet_by verb nothing d = refl
 
@@ -169,7 +174,7 @@ none_told : (at len : ℕ) (outcome : Outcome) → counts_told outcome ≡ count
 none_told at len (outcomes.Posted buffers code) e = ap (λ (n : ℕ). line_buffers at len n) (ap (λ (c : PortCounts). c.posts) e)
 none_told at len outcome e = refl
 
-quiet_told : (verb : Verb) (outcome : Outcome) → counts_told outcome ≡ counts 0 0 → buffers_told verb outcome ≡ []
+pub quiet_told : (verb : Verb) (outcome : Outcome) → counts_told outcome ≡ counts 0 0 → buffers_told verb outcome ≡ []
 quiet_told (verbs.Post at len count) outcome e = none_told at len outcome e
 quiet_told verb outcome e = refl
 
@@ -211,7 +216,7 @@ pub buffers_silent : (lan lan' : LanValue) (script : Script) → AllSilent lan l
 buffers_silent lan lan' script silent tells none unit sat = tells none unit sat ∙ sym (silent (unit_of script.partition unit)).posted
 
 -- a script before its first line
-nothing_ended : (unit : ℕ) (ls : List Line) → ended_by unit ls [] ≡ []
+pub nothing_ended : (unit : ℕ) (ls : List Line) → ended_by unit ls [] ≡ []
 nothing_ended unit [] = refl
 nothing_ended unit (l ∷ ls) = refl
 
@@ -229,9 +234,27 @@ under_by : (verb : Verb) (done : ℕ) → (is_call verb ≡ false → TakesNoMor
 under_by (verbs.Take count) done h = h refl
 under_by verb done h = tt
 
-within_by : (verb : Verb) (outcome : Outcome) → (is_call verb ≡ false → EndsWithin verb outcome) → EndsWithin verb outcome
-within_by (verbs.Take count) outcome h = h refl
-within_by verb outcome h = tt
+-- a line that is none of a port
+none_in_form : (verb : Verb) (outcome : Outcome) → is_for_port verb ≡ false → EndsInForm verb outcome
+none_in_form verbs.Open outcome e = absurd (cc (e))
+none_in_form verbs.Close outcome e = absurd (cc (e))
+none_in_form (verbs.ChangeMac mac) outcome e = absurd (cc (e))
+none_in_form (verbs.Multicast control mac) outcome e = absurd (cc (e))
+none_in_form (verbs.Post at len count) outcome e = absurd (cc (e))
+none_in_form (verbs.Send to len seed at) outcome e = absurd (cc (e))
+none_in_form (verbs.Take count) outcome e = absurd (cc (e))
+none_in_form verb outcome e = tt
+
+call_apart : (verb : Verb) → is_call verb ≡ true → is_for_port verb ≡ false
+call_apart (verbs.Hcall number args) e = refl
+call_apart verb e = absurd (cc (e))
+
+within_by : (verb : Verb) (outcome : Outcome) → (is_call verb ≡ false → EndsInForm verb outcome) → EndsInForm verb outcome
+within_by verb outcome h = by (is_call verb) refl
+  where
+    by : (b : Bool) → is_call verb ≡ b → EndsInForm verb outcome
+    by true e = none_in_form verb outcome (call_apart verb e)
+    by false e = h e
 
 under_none : (unit done : ℕ) (o : Option Line) → done ≡ 0 → IsUnder unit done o
 under_none unit done None e = tt
@@ -275,10 +298,10 @@ pub takes_end : (script ended : Script) (line : Line) (row : LogRow) → slice_g
     → length script.logs.items ≡ script.at → ended.lines ≡ script.lines → ended.seats ≡ script.seats
     → ended.logs.items ≡ script.logs.items ++ row ∷ [] → done_in ended.progress ≡ 0
     → ((unit : ℕ) → slice_get script.seats.items unit ≡ Some sits.Port → (line.unit == unit) ≡ true → TakesNoMore line.verb (done_in script.progress)
-    → EndsWithin line.verb row.outcome)
+    → EndsInForm line.verb row.outcome)
     → TellsTakes script → TellsTakes ended
 takes_end script ended line row found reached lines seats logs fresh within tells unit sat = record {
-  ended = subst AreWithin (sym records) (by (line.unit == unit) refl);
+  ended = subst AreInForm (sym records) (by (line.unit == unit) refl);
   now = under_none unit (done_in ended.progress) (slice_get ended.lines.now ended.at) fresh;
 }
   where
@@ -300,10 +323,10 @@ takes_end script ended line row found reached lines seats logs fresh within tell
     records : ended_by unit ended.lines.now ended.logs.items ≡ cond (line.unit == unit) (before ++ e ∷ []) before
     records = ap (λ ls. ended_by unit ls.now ended.logs.items) lines ∙ (ap (ended_by unit script.lines.now) logs ∙ ended_more unit script.lines.now script.logs.items line row there)
 
-    by : (b : Bool) → (line.unit == unit) ≡ b → AreWithin (cond b (before ++ e ∷ []) before)
+    by : (b : Bool) → (line.unit == unit) ≡ b → AreInForm (cond b (before ++ e ∷ []) before)
     by true is =
-        All-append (λ (x : Ended). EndsWithin x.verb x.outcome) before (e ∷ []) own.ended
-        (All-cons (λ (x : Ended). EndsWithin x.verb x.outcome) e [] (within unit sat' is (under_now script line unit found own is)) (All-nil (λ (x : Ended). EndsWithin x.verb x.outcome)))
+        All-append (λ (x : Ended). EndsInForm x.verb x.outcome) before (e ∷ []) own.ended
+        (All-cons (λ (x : Ended). EndsInForm x.verb x.outcome) e [] (within unit sat' is (under_now script line unit found own is)) (All-nil (λ (x : Ended). EndsInForm x.verb x.outcome)))
     by false is = own.ended
 
 pub takes_step : (lan lan' : LanValue) (script ended : Script) (line : Line) (row : LogRow) (done' : ℕ) → slice_get script.lines.now script.at ≡ Some line
@@ -316,17 +339,31 @@ takes_step lan lan' script ended line row done' found reached lines seats logs f
     (λ unit sat e less. within_by line.verb row.outcome (λ no.
     own_step (line.unit == unit) script line done' unit lan lan' (steps.Ends row.outcome) e ((step no).rises unit sat) less))
 
--- a line that takes none
-quiet_within : (verb : Verb) (outcome : Outcome) → ((d : ℕ) → counts_by verb d ≡ counts 0 0) → EndsWithin verb outcome
-quiet_within (verbs.Take count) outcome nothing = absurd (omega (arith, ap (λ (c : PortCounts). c.taken) (nothing 1)))
-quiet_within verb outcome nothing = tt
+-- a line that takes none, and is none of a replay
+pub quiet_in_form : (verb : Verb) (outcome : Outcome) → ((d : ℕ) → counts_by verb d ≡ counts 0 0) → is_replayed verb ≡ false → EndsInForm verb outcome
+quiet_in_form verbs.Open outcome nothing e = absurd (cc (e))
+quiet_in_form verbs.Close outcome nothing e = absurd (cc (e))
+quiet_in_form (verbs.ChangeMac mac) outcome nothing e = absurd (cc (e))
+quiet_in_form (verbs.Multicast control mac) outcome nothing e = absurd (cc (e))
+quiet_in_form (verbs.Post at len count) outcome nothing e = absurd (cc (e))
+quiet_in_form (verbs.Send to len seed at) outcome nothing e = absurd (cc (e))
+quiet_in_form (verbs.Take count) outcome nothing e = absurd (omega (arith, ap (λ (c : PortCounts). c.taken) (nothing 1)))
+quiet_in_form verb outcome nothing e = tt
+
+-- one that fails its partition
+pub fails_in_form : (verb : Verb) (outcome : Outcome) → fails verb ≡ true → EndsInForm verb outcome
+fails_in_form verb outcome e = none_in_form verb outcome (fails_apart verb e)
+  where
+    fails_apart : (v : Verb) → fails v ≡ true → is_for_port v ≡ false
+    fails_apart verbs.Fail f = refl
+    fails_apart v f = absurd (cc (f))
 
 pub takes_quiet : (script ended : Script) (line : Line) (row : LogRow) → slice_get script.lines.now script.at ≡ Some line
     → length script.logs.items ≡ script.at → ended.lines ≡ script.lines → ended.seats ≡ script.seats
-    → ended.logs.items ≡ script.logs.items ++ row ∷ [] → done_in ended.progress ≡ 0 → ((d : ℕ) → counts_by line.verb d ≡ counts 0 0)
+    → ended.logs.items ≡ script.logs.items ++ row ∷ [] → done_in ended.progress ≡ 0 → EndsInForm line.verb row.outcome
     → TellsTakes script → TellsTakes ended
-takes_quiet script ended line row found reached lines seats logs fresh nothing =
-    takes_end script ended line row found reached lines seats logs fresh (λ unit sat e less. quiet_within line.verb row.outcome nothing)
+takes_quiet script ended line row found reached lines seats logs fresh form =
+    takes_end script ended line row found reached lines seats logs fresh (λ unit sat e less. form)
 
 -- a line of frames that waits and is ended
 pub takes_took : (script ended : Script) (line : Line) (row : LogRow) (count taken : ℕ) → slice_get script.lines.now script.at ≡ Some line
@@ -338,12 +375,12 @@ takes_took script ended line row count taken found reached lines seats logs fres
     (λ unit sat e less.
     let most : done_in script.progress ≤ count = subst (λ (v : Verb). TakesNoMore v (done_in script.progress)) verb less in
     let within : taken ≤ count = omega (arith, few, most) in
-    subst (λ (v : Verb). EndsWithin v row.outcome) (sym verb) (subst (λ (o : Outcome). EndsWithin (verbs.Take count) o) (sym out) within))
+    subst (λ (v : Verb). EndsInForm v row.outcome) (sym verb) (subst (λ (o : Outcome). EndsInForm (verbs.Take count) o) (sym out) within))
 
 -- a script before its first line
 pub takes_fresh : (script : Script) → script.logs.items ≡ [] → done_in script.progress ≡ 0 → TellsTakes script
 takes_fresh script logs progress unit sat = record {
-  ended = subst AreWithin (sym (ap (λ rows. ended_by unit script.lines.now rows) logs ∙ nothing_ended unit script.lines.now))
-      (All-nil (λ (x : Ended). EndsWithin x.verb x.outcome));
+  ended = subst AreInForm (sym (ap (λ rows. ended_by unit script.lines.now rows) logs ∙ nothing_ended unit script.lines.now))
+      (All-nil (λ (x : Ended). EndsInForm x.verb x.outcome));
   now = under_none unit (done_in script.progress) (slice_get script.lines.now script.at) progress;
 }

@@ -1,5 +1,5 @@
 -- What a step or a call at a LAN unit makes of the ports, as their lines tell of them.
-use Rattle.std.proofs.Common.{◌≡◌, ◌≢◌, ◌⊎◌, inl, inr, ℕ, zero, suc, ◌≤◌, cond, length, Bool, true, false, true≢false, List, [], ◌∷◌, ◌++◌, append-nil, Option, Some, None, map, refl, sym, ◌∙◌, ap, subst, arith}
+use Rattle.std.proofs.Common.{◌≡◌, ◌≢◌, ◌⊎◌, inl, inr, ℕ, zero, suc, ◌≤◌, cond, length, Bool, true, false, true≢false, IfSome, List, [], ◌∷◌, ◌++◌, append-nil, Option, Some, None, map, refl, sym, ◌∙◌, ap, subst, arith}
 use Rattle.std.specs.List.{Contains}
 use Rattle.std.proofs.lemmas.List.{map-append}
 use Rattle.std.proofs.lemmas.List.Elements.{Contains-append_cases, Contains-push}
@@ -15,8 +15,11 @@ use Rattle.vio_trace.specs.declared.outcome.Outcome.TheVariants as outcomes
 use Rattle.unit_region.specs.declared.step.Step.TheVariants as steps
 use Rattle.lan_script.specs.declared.calls.PortCall.{PortCall}
 use Rattle.lan_script.specs.declared.calls.PortCall.TheVariants as calls
+use Rattle.lan_script.specs.LineForms.{StepForm}
+use Rattle.lan_script.specs.SendRanges.{SaysRange, StepRanges}
 use Rattle.lan_script.specs.declared.lines.PortStep.{PortStep}
 use Rattle.lan_script.specs.declared.lines.PortStep.TheVariants as ports
+use Rattle.lan_script.specs.declared.seat.PortSeat.{PortSeat}
 use Rattle.lan_script.specs.Correlators.{KeepsAddresses}
 use Rattle.lan_script.specs.Invariant.{sent_by}
 use Rattle.lan_script.specs.LineBytes.{StepsBytes}
@@ -36,7 +39,7 @@ use Rattle.lan_script.specs.Units.{LanValue, to_of}
 use Rattle.lan_script.specs.Values.{NamesOwn, SameValues, SameValuesBeside, is_put, puts_other}
 use Rattle.lan_script.specs.Windows.{facts_in}
 use Rattle.lan_script.proofs.Laws.{mac_same, self, one_unit, posts_same, same_posted}
-use Rattle.vcpu_run.specs.PortBytes.{StepBytes, StepSends}
+use Rattle.vcpu_run.specs.PortBytes.{StepBytes, StepSendsBytes}
 use Rattle.vcpu_run.specs.PortPosts.{StepFits}
 use Rattle.vcpu_run.proofs.PortPosting.{ends_within, waits_within}
 use Rattle.vcpu_run.specs.PortSteps.{AllSilent, IsBeside, StepRises, TakesOn}
@@ -259,7 +262,7 @@ same_bytes : (old new : LanValue) (v : UnitId) → new.seats ≡ old.seats → n
 same_bytes old new v seats frames = ap (λ (l : List FrameRow). map (λ (r : FrameRow). r.bytes) l) (same_rows old new v seats frames)
 
 ends_sends : (unit : UnitId) (verb : Verb) (outcome : Outcome) (old new : LanValue) → new.seats ≡ old.seats → SendsAs unit (ports.Ends outcome) old new
-    → StepsBytes unit verb (ports.Ends outcome) old new → StepSends unit verb old new (steps.Ends outcome)
+    → StepsBytes unit verb (ports.Ends outcome) old new → StepSendsBytes unit verb old new (steps.Ends outcome)
 ends_sends unit verb (outcomes.Frame code number) old new seats sent bytes = bytes
 ends_sends unit verb outcome old new seats sent bytes = same_bytes old new unit seats sent
 
@@ -284,8 +287,13 @@ bytes_waits unit verb moved old new seats sent names addresses = record {
 -- what it says of frames that it took and of buffers that it posted
 pub fits_ended : (unit : UnitId) (verb : Verb) (done done' : ℕ) (outcome : Outcome) (old new : LanValue) → StaysWithin verb done (ports.Ends outcome)
     → PostsStep unit verb done (ports.Ends outcome) old new → StepsMac unit verb (ports.Ends outcome) old new
-    → StepFits unit verb done done' old new (steps.Ends outcome)
-fits_ended unit verb done done' outcome old new within posts macs = record { takes = ends_within verb done outcome within; posts = posts; macs = macs }
+    → StepRanges unit verb (ports.Ends outcome) old.seats → StepForm verb (ports.Ends outcome) → StepFits unit verb done done' old new (steps.Ends outcome)
+fits_ended unit verb done done' outcome old new within posts macs ranges form = record {
+  takes = ends_within verb done outcome within form;
+  posts = posts;
+  macs = macs;
+  ranges = λ seat at. subst (λ (o : Option PortSeat). IfSome o (λ seat. SaysRange seat.pages verb outcome)) at ranges;
+}
 
 pub fits_waits : (unit : UnitId) (verb : Verb) (done far : ℕ) (moved : Moved) (old new : LanValue) → StaysWithin verb done (ports.Waits moved far)
     → PostsStep unit verb done (ports.Waits moved far) old new → StepsMac unit verb (ports.Waits moved far) old new
@@ -294,6 +302,7 @@ fits_waits unit verb done far moved old new within posts macs = record {
   takes = waits_within verb done far moved within;
   posts = posts;
   macs = macs;
+  ranges = tt;
 }
 
 -- where nothing was sent, posted or taken

@@ -1,5 +1,5 @@
 -- What raw calls say of the entries of LAN units' windows is so in a gathered trace.
-use Rattle.std.proofs.Common.{◌≡◌, ◌∙◌, ℕ, ◌==◌, ◌&&◌, cond, Bool, true, false, All, List, Option, Some, None, IfSome, IsSome, IsSomeAnd, option_map, slice_index, refl, sym, ap, subst}
+use Rattle.std.proofs.Common.{◌≡◌, ◌∙◌, ℕ, ◌==◌, ◌&&◌, cond, drop, Bool, true, false, All, List, Option, Some, None, IfSome, IsSome, IsSomeAnd, option_map, slice_index, refl, sym, ap, subst}
 use Rattle.std.specs.List.{Contains}
 use Rattle.vio_num.specs.declared.history.Grant.{Grant}
 use Rattle.vio_num.specs.declared.history.Served.{Served}
@@ -18,28 +18,32 @@ use Rattle.hcall_table.specs.declared.named.Named.TheVariants as names
 use Rattle.rdma_copy.specs.declared.copy.CopyRecord.{CopyRecord}
 use Rattle.tce_window.specs.Window.{WindowValue}
 use Rattle.lan_script.specs.Entries.{values_at}
+use Rattle.lan_script.specs.Regions.{strokes_at}
 use Rattle.lan_script.specs.Seats.{seat_at}
 use Rattle.lan_script.specs.Units.{LanValue, window_at as port_window_at}
 use Rattle.lan_script.specs.declared.rows.LanRows.{LanRows}
 use Rattle.lan_script.specs.declared.seat.PortSeat.{PortSeat}
 use Rattle.vio_trace.specs.declared.outcome.Outcome.{Outcome}
+use Rattle.vio_trace.specs.declared.rows.Trace.{Trace}
 use Rattle.vcpu_run.specs.declared.pair.Pair.{Pair}
 use Rattle.vcpu_run.specs.declared.script.Script.{Script}
 use Rattle.vcpu_run.specs.declared.unit_seat.Seat.TheVariants as sits
 use Rattle.vcpu_run.specs.declared.unit_seat.UnitSeat.{UnitSeat}
-use Rattle.vcpu_run.specs.CallsAnswered.{IsDone, IsUnitSaid, UnitSeen, port_seen}
+use Rattle.vcpu_run.specs.CallsAnswered.{IsDone, IsUnitSaid, UnitSeen, port_then}
 use Rattle.vcpu_run.specs.CallsShown.{unit_shown}
 use Rattle.vcpu_run.specs.Gathered.{HasLawfulWindow, IsWindowOf, trace_of}
 use Rattle.vcpu_run.specs.Machines.{AreScripts, IsOfPlan}
 use Rattle.vcpu_run.specs.Pairs.{AreOfOneHome}
+use Rattle.vcpu_run.specs.PortRegions.{strokes_shown}
 use Rattle.vcpu_run.specs.Shown.{pages_if, values_shown}
 use Rattle.vcpu_run.specs.Units.{seats_of, unit_seat}
 use Rattle.vcpu_run.proofs.CallsGrow.{UnitGrows, done_if}
-use Rattle.vcpu_run.proofs.FramesCarried.{HasPortWindow, port_window_there}
+use Rattle.vcpu_run.proofs.FramesCarried.{HasPortWindow, port_shows, port_window_there}
 use Rattle.vcpu_run.proofs.Following.{each_from_all}
 use Rattle.lan_script.proofs.Order.{Each}
+use Rattle.vcpu_run.proofs.MomentsThen.{then_same}
 use Rattle.vcpu_run.proofs.Parts.{IsIn, each_in}
-use Rattle.vcpu_run.proofs.PortsTold.{port_values, region_told}
+use Rattle.vcpu_run.proofs.PortsTold.{port_values}
 use Rattle.vcpu_run.proofs.Seated.{IsSeated, IsSeatedAt, all_seated, planned_in}
 
 -- ---- what a call says at a LAN unit
@@ -85,26 +89,27 @@ said_else a b rows.SendCrq args outcome not_sent of_window is = absurd (not_sent
 said_else a b rows.CopyRdma args outcome not_sent of_window is = record {
   parameter = is.parameter;
   refused = λ e. tt;
+  busy = λ e. tt;
   done = done_if (IsDone a rows.CopyRdma args) (IsDone b rows.CopyRdma args) (λ value h. tt) outcome is.done;
 }
 said_else a b rows.RegCrq args outcome not_sent of_window is =
-    record { parameter = tt; refused = λ e. tt; done = done_if (IsDone a rows.RegCrq args) (IsDone b rows.RegCrq args) (λ value h. tt) outcome is.done }
+    record { parameter = tt; refused = λ e. tt; busy = λ e. tt; done = done_if (IsDone a rows.RegCrq args) (IsDone b rows.RegCrq args) (λ value h. tt) outcome is.done }
 said_else a b rows.FreeCrq args outcome not_sent of_window is =
-    record { parameter = tt; refused = λ e. tt; done = done_if (IsDone a rows.FreeCrq args) (IsDone b rows.FreeCrq args) (λ value h. tt) outcome is.done }
+    record { parameter = tt; refused = λ e. tt; busy = λ e. tt; done = done_if (IsDone a rows.FreeCrq args) (IsDone b rows.FreeCrq args) (λ value h. tt) outcome is.done }
 said_else a b rows.EnableCrq args outcome not_sent of_window is =
-    record { parameter = tt; refused = λ e. tt; done = done_if (IsDone a rows.EnableCrq args) (IsDone b rows.EnableCrq args) (λ value h. tt) outcome is.done }
+    record { parameter = tt; refused = λ e. tt; busy = λ e. tt; done = done_if (IsDone a rows.EnableCrq args) (IsDone b rows.EnableCrq args) (λ value h. tt) outcome is.done }
 said_else a b rows.RegisterLogicalLan args outcome not_sent of_window is =
-    record { parameter = tt; refused = λ e. tt; done = done_if (IsDone a rows.RegisterLogicalLan args) (IsDone b rows.RegisterLogicalLan args) (λ value h. tt) outcome is.done }
+    record { parameter = tt; refused = λ e. tt; busy = λ e. tt; done = done_if (IsDone a rows.RegisterLogicalLan args) (IsDone b rows.RegisterLogicalLan args) (λ value h. tt) outcome is.done }
 said_else a b rows.FreeLogicalLan args outcome not_sent of_window is =
-    record { parameter = tt; refused = λ e. tt; done = done_if (IsDone a rows.FreeLogicalLan args) (IsDone b rows.FreeLogicalLan args) (λ value h. tt) outcome is.done }
+    record { parameter = tt; refused = λ e. tt; busy = λ e. tt; done = done_if (IsDone a rows.FreeLogicalLan args) (IsDone b rows.FreeLogicalLan args) (λ value h. tt) outcome is.done }
 said_else a b rows.AddLogicalLanBuffer args outcome not_sent of_window is =
-    record { parameter = tt; refused = λ e. tt; done = done_if (IsDone a rows.AddLogicalLanBuffer args) (IsDone b rows.AddLogicalLanBuffer args) (λ value h. tt) outcome is.done }
+    record { parameter = tt; refused = λ e. tt; busy = λ e. tt; done = done_if (IsDone a rows.AddLogicalLanBuffer args) (IsDone b rows.AddLogicalLanBuffer args) (λ value h. tt) outcome is.done }
 said_else a b rows.SendLogicalLan args outcome not_sent of_window is =
-    record { parameter = tt; refused = λ e. tt; done = done_if (IsDone a rows.SendLogicalLan args) (IsDone b rows.SendLogicalLan args) (λ value h. tt) outcome is.done }
+    record { parameter = tt; refused = λ e. tt; busy = λ e. tt; done = done_if (IsDone a rows.SendLogicalLan args) (IsDone b rows.SendLogicalLan args) (λ value h. tt) outcome is.done }
 said_else a b rows.MulticastCtrl args outcome not_sent of_window is =
-    record { parameter = tt; refused = λ e. tt; done = done_if (IsDone a rows.MulticastCtrl args) (IsDone b rows.MulticastCtrl args) (λ value h. tt) outcome is.done }
+    record { parameter = tt; refused = λ e. tt; busy = λ e. tt; done = done_if (IsDone a rows.MulticastCtrl args) (IsDone b rows.MulticastCtrl args) (λ value h. tt) outcome is.done }
 said_else a b rows.ChangeLogicalLanMac args outcome not_sent of_window is =
-    record { parameter = tt; refused = λ e. tt; done = done_if (IsDone a rows.ChangeLogicalLanMac args) (IsDone b rows.ChangeLogicalLanMac args) (λ value h. tt) outcome is.done }
+    record { parameter = tt; refused = λ e. tt; busy = λ e. tt; done = done_if (IsDone a rows.ChangeLogicalLanMac args) (IsDone b rows.ChangeLogicalLanMac args) (λ value h. tt) outcome is.done }
 
 pub said_port : (place : Place) (a b : UnitSeen) (row : Hcall) (args : List ℕ) (unit : ℕ) (outcome : Outcome) → place.kind unit ≡ Some kinds.Lan
     → unit_asked place row args ≡ Some unit → (is_of_window row ≡ true → IsUnitSaid b row (further row args) outcome)
@@ -119,15 +124,23 @@ said_port place a b row args unit outcome lan asked of_window is = said_else a b
 -- what there is of a LAN unit is shown by the trace
 pub port_shown : (pairs : List Pair) (scripts : List Script) (lan : LanValue) (lan_rows : LanRows) (history : List Served) (grants : List Grant) (copies : List CopyRecord) (partitions : List Partition)
     → AreOfOneHome copies pairs → AreScripts pairs lan.seats scripts → All (HasLawfulWindow pairs lan) (seats_of scripts) → IsOfPlan partitions pairs scripts lan.seats
-    → (unit : UnitId) (mac : Mac) (pages slots : ℕ) → unit_at partitions unit ≡ Some (units.Lan mac pages slots) → IsSome (seat_at lan.seats unit)
-    → UnitGrows (port_seen lan unit) (unit_shown (trace_of pairs scripts lan lan_rows history grants copies) unit (Some (units.Lan mac pages slots)))
-port_shown pairs scripts lan lan_rows history grants copies partitions home are windows of_plan unit mac pages slots planned there = record {
+    → (number : ℕ) (unit : UnitId) (mac : Mac) (pages slots : ℕ) → unit_at partitions unit ≡ Some (units.Lan mac pages slots) → IsSome (seat_at lan.seats unit)
+    → UnitGrows (port_then number lan unit) (unit_shown (trace_of pairs scripts lan lan_rows history grants copies) number unit (Some (units.Lan mac pages slots)))
+port_shown pairs scripts lan lan_rows history grants copies partitions home are windows of_plan number unit mac pages slots planned there = record {
   pages = sym (size (seat_at lan.seats unit) there has.fits);
   values = λ entry value is. subst (λ (l : List ℕ). Contains l value) (sym (values entry)) is;
-  fronts = (region_told pairs scripts lan lan_rows history grants copies partitions home are of_plan windows unit there).fronts;
+  puts = λ entry value is. subst (λ (l : List ℕ). Contains (drop 1 l) value) (sym (values entry)) is;
+  fronts = λ page front is.
+      then_same unit number front (strokes_at lan unit page) (strokes_shown trace pages unit page)
+      (subst (λ n. strokes_shown trace n unit page ≡ strokes_at lan unit page) (ap pages_if planned)
+      ((port_shows pairs scripts lan lan_rows history grants copies partitions home are windows of_plan unit there).same page)) is;
+  held = λ never. never;
   entries = λ entry is. is;
 }
   where
+    trace : Trace
+    trace = trace_of pairs scripts lan lan_rows history grants copies
+
     seat : UnitSeat
     seat = unit_seat unit.partition unit.unit sits.Port
 

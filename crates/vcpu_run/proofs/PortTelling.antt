@@ -27,7 +27,7 @@ use Rattle.vcpu_run.proofs.PortAddresses.{idle_silent, silent_here}
 use Rattle.vcpu_run.proofs.Logging.{all_at}
 
 -- one line more
-frames_more : (es : List Ended) (e : Ended) → frames_told (es ++ e ∷ []) ≡ frames_told es ++ frame_of e.outcome
+pub frames_more : (es : List Ended) (e : Ended) → frames_told (es ++ e ∷ []) ≡ frames_told es ++ frame_of e.outcome
 frames_more [] e = append-nil (frame_of e.outcome)
 frames_more (x ∷ es) e =
     ap (λ l. frame_of x.outcome ++ l) (frames_more es e) ∙ sym (append_assoc (frame_of x.outcome) (frames_told es) (frame_of e.outcome))
@@ -36,7 +36,7 @@ posts_more : (es : List Ended) (e : Ended) → posts_told (es ++ e ∷ []) ≡ p
 posts_more [] e = omega arith
 posts_more (x ∷ es) e = omega (arith, posts_more es e)
 
-taken_more : (es : List Ended) (e : Ended) → taken_told (es ++ e ∷ []) ≡ taken_told es + (counts_told e.outcome).taken
+pub taken_more : (es : List Ended) (e : Ended) → taken_told (es ++ e ∷ []) ≡ taken_told es + (counts_told e.outcome).taken
 taken_more [] e = omega arith
 taken_more (x ∷ es) e = omega (arith, taken_more es e)
 

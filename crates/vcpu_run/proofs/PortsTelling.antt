@@ -20,14 +20,16 @@ use Rattle.vcpu_run.specs.Suited.{is_call}
 use Rattle.vcpu_run.specs.Works.{fails}
 use Rattle.vcpu_run.proofs.PortFitting.{fit_ends, fit_fails, fit_fresh, fit_rest, fit_waits}
 use Rattle.vcpu_run.proofs.PortAddresses.{macs_fresh, macs_quiet, macs_rest, macs_silent, macs_step, macs_wait, silent_here}
+use Rattle.vcpu_run.proofs.PortAmong.{among_fresh, among_quiet, among_rest, among_silent, among_step, among_took, among_wait}
 use Rattle.vcpu_run.proofs.PortBytes.{bytes_fresh, bytes_quiet, bytes_rest, bytes_silent, bytes_step, bytes_wait, fails_quiet}
 use Rattle.vcpu_run.proofs.CallsKept.{fails_no_call}
 use Rattle.vcpu_run.proofs.PortEntries.{entries_fresh, entries_quiet, entries_rest, entries_silent, entries_step, entries_wait}
 use Rattle.vcpu_run.proofs.PortLines.{fails_apart, regions_fresh, regions_quiet, regions_rest, regions_silent, regions_step, regions_wait}
 use Rattle.vcpu_run.proofs.PortLogged.{logged_fresh, logged_quiet, logged_rest, logged_silent, logged_step, logged_wait}
 use Rattle.vcpu_run.proofs.PortOffering.{offers_end, offers_fail, offers_fresh, offers_rest, offers_wait}
-use Rattle.vcpu_run.proofs.PortPosting.{buffers_fresh, buffers_quiet, buffers_rest, buffers_silent, buffers_step, buffers_took, buffers_wait, takes_fresh, takes_quiet, takes_step, takes_took, takes_wait}
+use Rattle.vcpu_run.proofs.PortPosting.{buffers_fresh, buffers_quiet, buffers_rest, buffers_silent, buffers_step, buffers_took, buffers_wait, fails_in_form, quiet_in_form, takes_fresh, takes_quiet, takes_step, takes_took, takes_wait}
 use Rattle.vcpu_run.proofs.PortPutting.{values_fresh, values_quiet, values_rest, values_silent, values_step, values_wait}
+use Rattle.vcpu_run.proofs.PortRanges.{fails_ranged, quiet_ranged, ranges_fresh, ranges_quiet, ranges_rest, ranges_silent, ranges_step, ranges_wait}
 use Rattle.vcpu_run.proofs.PortReplaying.{failing_replay, fresh_replay, none_replay, replay_ends, replay_waits, rest_replay, step_replay}
 use Rattle.unit_region.specs.LinePuts.{is_put}
 use Rattle.vcpu_run.proofs.ValuesKept.{fails_none as fails_puts_none}
@@ -44,12 +46,14 @@ pub port_waits : (lan lan' : LanValue) (script script' : Script) (line : Line) (
     → TellsPorts lan script → TellsPorts lan' script'
 port_waits lan lan' script script' line moved found same no_call step tells = record {
   words = words_wait lan lan' script script' line moved found same step tells.words;
+  among = among_wait lan lan' script script' line moved found same no_call step tells.among;
+  ranges = ranges_wait lan lan' script script' line moved same no_call step tells.ranges;
   buffers = buffers_wait lan lan' script script' line moved found same step tells.buffers;
   takes = takes_wait lan lan' script script' line moved found same step tells.takes;
   values = values_wait lan lan' script script' line moved found same step tells.values;
   regions = regions_wait lan lan' script script' line moved found same no_call step tells.regions;
   logged = logged_wait lan lan' script script' line moved found same no_call step tells.logged;
-  entries = entries_wait lan lan' script script' line moved same no_call step tells.entries;
+  entries = entries_wait lan lan' script script' line moved found same no_call step tells.entries;
   macs = macs_wait lan lan' script script' line moved same no_call step tells.macs;
   bytes = bytes_wait lan lan' script script' line moved found same step tells.bytes;
   replay = replay_waits lan lan' script script' line moved found same step tells.replay;
@@ -67,12 +71,14 @@ pub step_tells : (lan lan' : LanValue) (script ended : Script) (line : Line) (ro
     → TellsPorts lan script → TellsPorts lan' ended
 step_tells lan lan' script ended line row done' found reached partition lines seats logs fresh ports call entry step tells = record {
   words = step_words lan lan' script ended line row done' found reached partition lines seats logs fresh step tells.words;
+  among = among_step lan lan' script ended line row done' found reached partition lines seats logs fresh call step tells.among;
+  ranges = ranges_step lan lan' script ended line row done' found reached partition lines seats logs ports step tells.ranges;
   buffers = buffers_step lan lan' script ended line row done' found reached partition lines seats logs fresh step tells.buffers;
   takes = takes_step lan lan' script ended line row done' found reached lines seats logs fresh step tells.takes;
   values = values_step lan lan' script ended line row done' found reached partition lines seats logs step tells.values;
   regions = regions_step lan lan' script ended line row done' found reached partition lines seats logs ports entry step tells.logged tells.regions;
   logged = logged_step lan lan' script ended line row done' found reached partition lines seats logs entry step tells.logged;
-  entries = entries_step lan lan' script ended line row done' found reached partition lines seats logs ports entry step tells.entries;
+  entries = entries_step lan lan' script ended line row done' found reached partition lines seats logs ports entry step tells.logged tells.entries;
   macs = macs_step lan lan' script ended line row done' found reached partition lines seats logs call step tells.macs;
   bytes = bytes_step lan lan' script ended line row done' found reached partition lines seats logs step tells.bytes;
   replay = replay_ends lan lan' script ended line row found reached partition lines seats logs fresh
@@ -91,8 +97,10 @@ pub quiet_tells : (lan : LanValue) (script ended : Script) (line : Line) (row : 
     → is_put line.verb ≡ false → is_in_region line.verb ≡ false → is_call line.verb ≡ false → TellsPorts lan script → TellsPorts lan ended
 quiet_tells lan script ended line row found reached partition lines seats logs fresh no_frame none nothing other isnt apart no_call tells = record {
   words = quiet_words lan lan script ended line row found reached partition lines seats logs fresh no_frame none nothing (all_still lan) tells.words;
+  among = among_quiet lan lan script ended line row found reached partition lines seats logs fresh no_frame none nothing isnt (all_still lan) tells.among;
+  ranges = ranges_quiet lan lan script ended line row found reached partition lines seats logs (λ pages. quiet_ranged pages line.verb row.outcome other) (all_still lan) tells.ranges;
   buffers = buffers_quiet lan lan script ended line row found reached partition lines seats logs fresh none nothing (all_still lan) tells.buffers;
-  takes = takes_quiet script ended line row found reached lines seats logs fresh nothing tells.takes;
+  takes = takes_quiet script ended line row found reached lines seats logs fresh (quiet_in_form line.verb row.outcome nothing other) tells.takes;
   values = values_quiet lan lan script ended line row found reached partition lines seats logs isnt (all_still lan) tells.values;
   regions = regions_quiet lan lan script ended line row found reached partition lines seats logs apart (all_still lan) tells.logged tells.regions;
   logged = logged_quiet lan lan script ended line row found reached partition lines seats logs (all_still lan) tells.logged;
@@ -115,6 +123,8 @@ pub took_tells : (lan : LanValue) (script ended : Script) (line : Line) (row : L
     → TellsPorts lan script → TellsPorts lan ended
 took_tells lan script ended line row count taken found reached partition lines seats logs fresh out verb few tells = record {
   words = took_words lan script ended line row count taken found reached partition lines seats logs fresh out verb few tells.words;
+  among = among_took lan script ended line row count taken found reached partition lines seats logs fresh out verb few tells.among;
+  ranges = ranges_quiet lan lan script ended line row found reached partition lines seats logs (λ pages. quiet_ranged pages line.verb row.outcome (ap is_replayed verb)) (all_still lan) tells.ranges;
   buffers = buffers_took lan script ended line row count found reached partition lines seats logs fresh verb tells.buffers;
   takes = takes_took script ended line row count taken found reached lines seats logs fresh out verb few tells.takes;
   values = values_quiet lan lan script ended line row found reached partition lines seats logs (ap is_put verb) (all_still lan) tells.values;
@@ -139,8 +149,10 @@ pub failed_tells : (lan lan' : LanValue) (script ended : Script) (line : Line) (
     → TellsPorts lan script → TellsPorts lan' ended
 failed_tells lan lan' script ended line row found reached partition lines seats logs fresh no_frame none failing silent tells = record {
   words = quiet_words lan lan' script ended line row found reached partition lines seats logs fresh no_frame none (fails_none line.verb failing) silent tells.words;
+  among = among_quiet lan lan' script ended line row found reached partition lines seats logs fresh no_frame none (fails_none line.verb failing) (fails_puts_none line.verb failing) silent tells.among;
+  ranges = ranges_quiet lan lan' script ended line row found reached partition lines seats logs (λ pages. fails_ranged pages line.verb row.outcome failing) silent tells.ranges;
   buffers = buffers_quiet lan lan' script ended line row found reached partition lines seats logs fresh none (fails_none line.verb failing) silent tells.buffers;
-  takes = takes_quiet script ended line row found reached lines seats logs fresh (fails_none line.verb failing) tells.takes;
+  takes = takes_quiet script ended line row found reached lines seats logs fresh (fails_in_form line.verb row.outcome failing) tells.takes;
   values = values_quiet lan lan' script ended line row found reached partition lines seats logs (fails_puts_none line.verb failing) silent tells.values;
   regions = regions_quiet lan lan' script ended line row found reached partition lines seats logs (fails_apart line.verb failing) silent tells.logged tells.regions;
   logged = logged_quiet lan lan' script ended line row found reached partition lines seats logs silent tells.logged;
@@ -157,6 +169,8 @@ pub failing_tells : (lan lan' : LanValue) (script : Script) (line : Line) → sl
     → AllSilent lan lan' → TellsPorts lan script → TellsPorts lan' script
 failing_tells lan lan' script line found failing silent tells = record {
   words = silent_words lan lan' script silent tells.words;
+  among = among_silent lan lan' script silent tells.among;
+  ranges = ranges_silent lan lan' script silent tells.ranges;
   buffers = buffers_silent lan lan' script silent tells.buffers;
   takes = tells.takes;
   values = values_silent lan lan' script silent tells.values;
@@ -174,6 +188,8 @@ failing_tells lan lan' script line found failing silent tells = record {
 pub rest_tells : (lan lan' : LanValue) (script : Script) → AllTake script.partition lan lan' → TellsPorts lan script → TellsPorts lan' script
 rest_tells lan lan' script takes tells = record {
   words = rest_words lan lan' script takes tells.words;
+  among = among_rest lan lan' script takes tells.among;
+  ranges = ranges_rest lan lan' script takes tells.ranges;
   buffers = buffers_rest lan lan' script takes tells.buffers;
   takes = tells.takes;
   values = values_rest lan lan' script takes tells.values;
@@ -191,6 +207,8 @@ rest_tells lan lan' script takes tells = record {
 pub fresh_tells : (lan : LanValue) (script : Script) → script.logs.items ≡ [] → done_in script.progress ≡ 0 → AreFresh lan → TellsPorts lan script
 fresh_tells lan script logs progress fresh = record {
   words = fresh_words lan script logs progress fresh;
+  among = among_fresh lan script logs progress fresh;
+  ranges = ranges_fresh lan script logs;
   buffers = buffers_fresh lan script logs progress fresh;
   takes = takes_fresh script logs progress;
   values = values_fresh lan script logs fresh;

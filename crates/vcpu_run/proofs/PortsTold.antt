@@ -45,6 +45,7 @@ use Rattle.vio_trace.specs.declared.rows.Trace.{Trace}
 use Rattle.vcpu_run.specs.declared.pair.Pair.{Pair}
 use Rattle.vcpu_run.specs.declared.script.Script.{Script}
 use Rattle.vcpu_run.specs.declared.unit_seat.Seat.TheVariants as sits
+use Rattle.vcpu_run.specs.Among.{AreAmong}
 use Rattle.vcpu_run.specs.Credited.{Ended, ended_by}
 use Rattle.vcpu_run.specs.Gathered.{HasLawfulWindow, IsGathered, logs_of, trace_of}
 use Rattle.vcpu_run.specs.Lines.{IsOver}
@@ -54,12 +55,12 @@ use Rattle.lan_script.specs.OwnMac.{IsForGroup}
 use Rattle.vcpu_run.specs.PortBytes.{NamesOwnPages, bytes_told}
 use Rattle.vcpu_run.specs.PortMacs.{HasMac}
 use Rattle.vcpu_run.specs.PortOffers.{EndsFrame, GoesNow, GoesTo, KeepsOffers, WasTarget}
-use Rattle.vcpu_run.specs.PortPosts.{AreWithin, buffers_of, buffers_under}
+use Rattle.vcpu_run.specs.PortPosts.{AreInForm, AreRanged, buffers_of, buffers_under}
 use Rattle.vcpu_run.specs.LinesShow.{Sees}
 use Rattle.vcpu_run.specs.Pairs.{AreOfOneHome}
 use Rattle.vcpu_run.specs.PortRegions.{AreInTurn, IsCurrent, IsLogged, KeepsLogged, KeepsTold, LinesTold, RegionsAreTold, StrokesAreLogged, region_shown, strokes_shown}
 use Rattle.vcpu_run.specs.PortReplays.{AreReplayed, IsPlainPort, sent_at}
-use Rattle.vcpu_run.specs.PortWords.{BuffersAreTold, FramesAreOffered, FramesHaveBytes, HasNoCall, LinesTell, OffersAreFit, OffersHaveAddress, PortsAreReplayed, PortsAreTold, PortsTell, PostsCarryAddresses, TakesAreWithin, TellsPort, ValuesAreTold, WordsAreTold, counts_now, counts_under, done_in, frame_told}
+use Rattle.vcpu_run.specs.PortWords.{BuffersAreTold, FramesAreOffered, FramesHaveBytes, HasNoCall, KeepsAmong, LinesAreAmong, LinesAreInForm, LinesTell, OffersAreFit, OffersHaveAddress, PortsAreReplayed, PortsAreTold, PortsTell, PostsCarryAddresses, SendsAreRanged, TellsPort, ValuesAreTold, WordsAreAmong, WordsAreTold, buffers_now, counts_now, counts_under, done_in, frame_told, frames_told}
 use Rattle.vcpu_run.specs.PortsRest.{PortsEnd}
 use Rattle.vcpu_run.specs.Scripts.{are_servers}
 use Rattle.vcpu_run.specs.Settled.{script_of}
@@ -352,12 +353,12 @@ buffers_are pairs scripts lan rows history grants copies partitions are of_plan 
     own : List Ended
     own = ended_by unit.unit at.script.lines.now at.script.logs.items
 
-takes_are : (pairs : List Pair) (scripts : List Script) (lan : LanValue) (rows : LanRows) (history : List Served) (grants : List Grant) (copies : List CopyRecord)
+forms_are : (pairs : List Pair) (scripts : List Script) (lan : LanValue) (rows : LanRows) (history : List Served) (grants : List Grant) (copies : List CopyRecord)
     (partitions : List Partition) → AreScripts pairs lan.seats scripts → IsOfPlan partitions pairs scripts lan.seats → All IsOver scripts → PortsTell lan scripts
-    → TakesAreWithin partitions (trace_of pairs scripts lan rows history grants copies)
-takes_are pairs scripts lan rows history grants copies partitions are of_plan over tells unit there =
-    subst (λ ls. AreWithin (ended_by unit.unit ls logs)) (sym at.lines)
-    (subst (λ l. AreWithin (ended_by unit.unit at.script.lines.now l)) (sym at.only)
+    → LinesAreInForm partitions (trace_of pairs scripts lan rows history grants copies)
+forms_are pairs scripts lan rows history grants copies partitions are of_plan over tells unit there =
+    subst (λ ls. AreInForm (ended_by unit.unit ls logs)) (sym at.lines)
+    (subst (λ l. AreInForm (ended_by unit.unit at.script.lines.now l)) (sym at.only)
     ((tells unit.partition at.script at.is).takes unit.unit at.sits).ended)
   where
     logs : List LogRow
@@ -444,22 +445,49 @@ values_told_are pairs scripts lan rows history grants copies partitions are of_p
     at : IsScriptAt scripts partitions unit logs
     at = script_at pairs scripts lan.seats partitions unit are of_plan over there
 
--- what there is of a port's region is what a trace shows of it
-pub region_told : (pairs : List Pair) (scripts : List Script) (lan : LanValue) (rows : LanRows) (history : List Served) (grants : List Grant) (copies : List CopyRecord)
-    (partitions : List Partition) → AreOfOneHome copies pairs → AreScripts pairs lan.seats scripts → IsOfPlan partitions pairs scripts lan.seats
-    → All (HasLawfulWindow pairs lan) (seats_of scripts) → (unit : UnitId) → IsSome (seat_at lan.seats unit)
-    → Sees (seen_as (region_once (strokes_at lan unit))) (seen_as (region_shown (trace_of pairs scripts lan rows history grants copies) unit))
-region_told pairs scripts lan rows history grants copies partitions home are of_plan windows unit there =
-    let trace : Trace = trace_of pairs scripts lan rows history grants copies in
-    let shows = port_shows pairs scripts lan rows history grants copies partitions home are windows of_plan unit there in
-    record {
-      strokes = λ page stroke is.
-          stroke_shown (pages_at partitions unit) page stroke (strokes_at lan unit page) (map stroke_value (strokes_on trace unit page)) (shows.grows.strokes page) is;
-      fronts = λ page front is.
-          front_shown (pages_at partitions unit) page front (strokes_at lan unit page) (map stroke_value (strokes_on trace unit page)) (shows.grows.strokes page) is;
-      values = λ entry value is. is;
-      entries = λ entry is. is;
-    }
+among_rows : (own : List Ended) (buffers : List ℕ) (now : PortCounts) (lan : LanValue) (unit : UnitId) (pairs : List Pair) (scripts : List Script) (rows : LanRows)
+    (history : List Served) (grants : List Grant) (copies : List CopyRecord) → buffers ≡ [] → now ≡ counts 0 0 → CountsRows lan rows
+    → ((e : ℕ) → values_shown (trace_of pairs scripts lan rows history grants copies) unit e ≡ values_at lan unit e) → KeepsAmong own buffers now lan unit → LinesAreAmong own (trace_of pairs scripts lan rows history grants copies) unit
+among_rows own buffers now lan unit pairs scripts rows history grants copies none ended counted values is = record {
+  frames = subst (λ (l : List FrameRow). AreAmong (frames_told own) (map frame_told l)) (sym (counted.frames unit)) is.frames;
+  posts = subst (λ (l : List ℕ). AreAmong (buffers_of own) l) (sym (counted.buffers unit))
+      (subst (λ (l : List ℕ). AreAmong l (posted_at lan unit)) (ap (λ l. buffers_of own ++ l) none ∙ append-nil (buffers_of own)) is.posts);
+  values = λ e. subst (λ (l : List ℕ). AreAmong ((4096 * e + 3) ∷ values_told e own) l) (sym (values e)) (is.values e);
+  taken = omega (arith, is.taken, counted.taken unit, ap (λ (c : PortCounts). c.taken) ended);
+}
+
+among_are : (pairs : List Pair) (scripts : List Script) (lan : LanValue) (rows : LanRows) (history : List Served) (grants : List Grant) (copies : List CopyRecord)
+    (partitions : List Partition) → AreScripts pairs lan.seats scripts → IsOfPlan partitions pairs scripts lan.seats → All IsOver scripts → PortsTell lan scripts
+    → CountsRows lan rows → All (HasLawfulWindow pairs lan) (seats_of scripts) → WordsAreAmong partitions (trace_of pairs scripts lan rows history grants copies)
+among_are pairs scripts lan rows history grants copies partitions are of_plan over tells counted windows unit there =
+    subst (λ ls. LinesAreAmong (ended_by unit.unit ls logs) (trace_of pairs scripts lan rows history grants copies) unit) (sym at.lines)
+    (subst (λ l. LinesAreAmong (ended_by unit.unit at.script.lines.now l) (trace_of pairs scripts lan rows history grants copies) unit) (sym at.only)
+    (among_rows (ended_by unit.unit at.script.lines.now at.script.logs.items) (buffers_now unit.unit at.script) (counts_now unit.unit at.script) lan unit pairs scripts
+    rows history grants copies (ap (λ o. buffers_under unit.unit (done_in at.script.progress) o) at.left) at.ended counted
+    (port_values pairs scripts lan rows history grants copies partitions are of_plan windows unit there)
+    (subst (λ (id : UnitId). KeepsAmong (ended_by unit.unit at.script.lines.now at.script.logs.items) (buffers_now unit.unit at.script) (counts_now unit.unit at.script) lan id)
+    at.named ((tells unit.partition at.script at.is).among unit.unit at.sits))))
+  where
+    logs : List LogRow
+    logs = filter (λ (row : LogRow). row.partition == unit.partition) (flat_map logs_of scripts)
+
+    at : IsScriptAt scripts partitions unit logs
+    at = script_at pairs scripts lan.seats partitions unit are of_plan over there
+
+ranges_are : (pairs : List Pair) (scripts : List Script) (lan : LanValue) (rows : LanRows) (history : List Served) (grants : List Grant) (copies : List CopyRecord)
+    (partitions : List Partition) → AreScripts pairs lan.seats scripts → IsOfPlan partitions pairs scripts lan.seats → All IsOver scripts → PortsTell lan scripts
+    → SendsAreRanged partitions (trace_of pairs scripts lan rows history grants copies)
+ranges_are pairs scripts lan rows history grants copies partitions are of_plan over tells unit seat there =
+    subst (λ ls. AreRanged seat (ended_by unit.unit ls logs)) (sym at.lines)
+    (subst (λ l. AreRanged seat (ended_by unit.unit at.script.lines.now l)) (sym at.only)
+    ((tells unit.partition at.script at.is).ranges unit.unit at.sits seat
+    (ap (λ u. seat_at lan.seats u) at.named ∙ (ap (λ ss. seat_at ss unit) of_plan.ports_are ∙ there))))
+  where
+    logs : List LogRow
+    logs = filter (λ (row : LogRow). row.partition == unit.partition) (flat_map logs_of scripts)
+
+    at : IsScriptAt scripts partitions unit logs
+    at = script_at pairs scripts lan.seats partitions unit are of_plan over (subst (λ (o : Option PortSeat). IsSome o) (sym there) refl)
 
 regions_are : (pairs : List Pair) (scripts : List Script) (lan : LanValue) (rows : LanRows) (history : List Served) (grants : List Grant) (copies : List CopyRecord)
     (partitions : List Partition) → AreOfOneHome copies pairs → AreScripts pairs lan.seats scripts → IsOfPlan partitions pairs scripts lan.seats → All IsOver scripts
@@ -556,8 +584,10 @@ pub told_are : (pairs : List Pair) (scripts : List Script) (lan : LanValue) (row
     → PortsEnd lan scripts → CountsRows lan rows → All (HasLawfulWindow pairs lan) (seats_of scripts) → PortsAreTold partitions (trace_of pairs scripts lan rows history grants copies)
 told_are pairs scripts lan rows history grants copies partitions home are of_plan over ends counted windows = record {
   words = words_are pairs scripts lan rows history grants copies partitions are of_plan over ends.told counted;
+  among = among_are pairs scripts lan rows history grants copies partitions are of_plan over ends.told counted windows;
+  ranges = ranges_are pairs scripts lan rows history grants copies partitions are of_plan over ends.told;
   buffers = buffers_are pairs scripts lan rows history grants copies partitions are of_plan over ends.told counted;
-  takes = takes_are pairs scripts lan rows history grants copies partitions are of_plan over ends.told;
+  forms = forms_are pairs scripts lan rows history grants copies partitions are of_plan over ends.told;
   values = values_told_are pairs scripts lan rows history grants copies partitions are of_plan over ends.told windows;
   regions = regions_are pairs scripts lan rows history grants copies partitions home are of_plan over ends.told windows;
   logged = logged_are pairs scripts lan rows history grants copies partitions home are of_plan over ends.told windows;

@@ -72,6 +72,17 @@ parameter_by row returned = at (gives_value row returned.code) refl
     at true gave = (λ e. absurd (not_parameter returned.r4 e), λ is. absurd (gone is gave))
     at false none = (λ e. is_code returned.code codes.Parameter e, λ is. ap (λ code. outcomes.Code code) is)
 
+-- it says Busy only where that is the code
+no_busy : (value : ℕ) → outcomes.Value value ≡ outcomes.Code codes.Busy → ⊥
+no_busy value e = cc
+
+busy_by : (row : Hcall) (returned : Returned) → says_row row returned ≡ outcomes.Code codes.Busy → returned.code ≡ codes.Busy
+busy_by row returned = at (gives_value row returned.code)
+  where
+    at : (b : Bool) → cond b (outcomes.Value returned.r4) (outcomes.Code returned.code) ≡ outcomes.Code codes.Busy → returned.code ≡ codes.Busy
+    at true e = absurd (no_busy returned.r4 e)
+    at false e = is_code returned.code codes.Busy e
+
 parameter_says : (row : Hcall) (returned : Returned) (taken : Option Bool) → IfSome taken (λ taken. (returned.code ≡ codes.Parameter) ↔ (taken ≡ false))
     → IfSome taken (λ taken. (says_row row returned ≡ outcomes.Code codes.Parameter) ↔ (taken ≡ false))
 parameter_says row returned None is = tt
@@ -105,6 +116,7 @@ row_says : (seen : UnitSeen) (row : Hcall) (args : List ℕ) (returned : Returne
 row_says seen row args returned answer is = record {
   parameter = parameter_says row returned (is_taken row seen.pages args) is.parameter;
   refused = λ e. is.refused ((parameter_by row returned).0 e);
+  busy = λ e. is.busy (busy_by row returned e);
   done = done_says seen row args returned answer is.done;
 }
 
@@ -159,23 +171,23 @@ unsaid seen rows.GetTce args result is = absurd (cc)
 unsaid seen rows.PutTce args result is = absurd (cc)
 unsaid seen rows.StuffTce args result is = absurd (cc)
 unsaid seen rows.PutTceIndirect args result is = absurd (cc)
-unsaid seen rows.RegCrq args (Ok returned) is = record { parameter = tt; refused = λ e. tt; done = λ good. tt }
+unsaid seen rows.RegCrq args (Ok returned) is = record { parameter = tt; refused = λ e. tt; busy = λ e. tt; done = λ good. tt }
 unsaid seen rows.RegCrq args (Err memory) is = tt
-unsaid seen rows.FreeCrq args (Ok returned) is = record { parameter = tt; refused = λ e. tt; done = λ good. tt }
+unsaid seen rows.FreeCrq args (Ok returned) is = record { parameter = tt; refused = λ e. tt; busy = λ e. tt; done = λ good. tt }
 unsaid seen rows.FreeCrq args (Err memory) is = tt
 unsaid seen rows.SendCrq args result is = absurd (cc)
-unsaid seen rows.EnableCrq args (Ok returned) is = record { parameter = tt; refused = λ e. tt; done = λ good. tt }
+unsaid seen rows.EnableCrq args (Ok returned) is = record { parameter = tt; refused = λ e. tt; busy = λ e. tt; done = λ good. tt }
 unsaid seen rows.EnableCrq args (Err memory) is = tt
 unsaid seen rows.CopyRdma args result is = absurd (cc)
-unsaid seen rows.RegisterLogicalLan args (Ok returned) is = record { parameter = tt; refused = λ e. tt; done = λ good. tt }
+unsaid seen rows.RegisterLogicalLan args (Ok returned) is = record { parameter = tt; refused = λ e. tt; busy = λ e. tt; done = λ good. tt }
 unsaid seen rows.RegisterLogicalLan args (Err memory) is = tt
-unsaid seen rows.FreeLogicalLan args (Ok returned) is = record { parameter = tt; refused = λ e. tt; done = λ good. tt }
+unsaid seen rows.FreeLogicalLan args (Ok returned) is = record { parameter = tt; refused = λ e. tt; busy = λ e. tt; done = λ good. tt }
 unsaid seen rows.FreeLogicalLan args (Err memory) is = tt
-unsaid seen rows.AddLogicalLanBuffer args (Ok returned) is = record { parameter = tt; refused = λ e. tt; done = λ good. tt }
+unsaid seen rows.AddLogicalLanBuffer args (Ok returned) is = record { parameter = tt; refused = λ e. tt; busy = λ e. tt; done = λ good. tt }
 unsaid seen rows.AddLogicalLanBuffer args (Err memory) is = tt
-unsaid seen rows.SendLogicalLan args (Ok returned) is = record { parameter = tt; refused = λ e. tt; done = λ good. tt }
+unsaid seen rows.SendLogicalLan args (Ok returned) is = record { parameter = tt; refused = λ e. tt; busy = λ e. tt; done = λ good. tt }
 unsaid seen rows.SendLogicalLan args (Err memory) is = tt
-unsaid seen rows.MulticastCtrl args (Ok returned) is = record { parameter = tt; refused = λ e. tt; done = λ good. tt }
+unsaid seen rows.MulticastCtrl args (Ok returned) is = record { parameter = tt; refused = λ e. tt; busy = λ e. tt; done = λ good. tt }
 unsaid seen rows.MulticastCtrl args (Err memory) is = tt
-unsaid seen rows.ChangeLogicalLanMac args (Ok returned) is = record { parameter = tt; refused = λ e. tt; done = λ good. tt }
+unsaid seen rows.ChangeLogicalLanMac args (Ok returned) is = record { parameter = tt; refused = λ e. tt; busy = λ e. tt; done = λ good. tt }
 unsaid seen rows.ChangeLogicalLanMac args (Err memory) is = tt

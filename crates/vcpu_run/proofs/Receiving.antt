@@ -33,7 +33,9 @@ use Rattle.block_server.proofs.IntakeLaws.{intake_none, intake_stays, others_pas
 use Rattle.vcpu_run.specs.declared.pair.Pair.{Pair}
 use Rattle.vcpu_run.specs.Answered.{AreBegun, IsBehind}
 use Rattle.vcpu_run.specs.Pairs.{AreDriven, Drives}
-use Rattle.vcpu_run.specs.Received.{AreFresh, AreReceived, IsReceived}
+use Rattle.vcpu_run.specs.Reached.{HasBegun}
+use Rattle.vcpu_run.specs.Received.{AreNew, AreReceived, IsReceived}
+use Rattle.vcpu_run.proofs.ShutKept.{begun_driven}
 use Rattle.vcpu_run.specs.Gone.{IsToldOfGone}
 use Rattle.vcpu_run.specs.Links.{AreClosed}
 use Rattle.vcpu_run.proofs.Gone.{gone_driven}
@@ -112,12 +114,12 @@ pub received_served : (units units' : List Unit) (unit : ℕ) (old new : Pair) (
     → queue'.last_session ≡ (side_of new.link true).queue.session → queue'.taken ≡ (side_of new.link true).queue.taken
     → ((judged : List Judged) → HasJudged units unit (known_of old.own) (known_of old.window) queue copies history grants judged
     → ∥ ((more : List Judged) × (HasJudged units' unit (known_of new.own) (known_of new.window) queue' copies' history' grants' (judged ++ more) × AreInTime old.own.unit grants more)) ∥₁)
-    → AreBegun (side_of new.link true).queue.taken → IsBehind (end_of [] new.link true) → IsToldOfGone (end_of [] new.link true) → AgreesAt units' unit (end_of [] new.link true)
+    → AreBegun (side_of new.link true).queue.taken → IsBehind (end_of [] new.link true) → IsToldOfGone (end_of [] new.link true) → HasBegun (end_of [] new.link true) → AgreesAt units' unit (end_of [] new.link true)
     → SeesAnswers (end_of [] old.link true) queue → SeesAnswers queue' (end_of [] new.link true) → new.own.unit ≡ old.own.unit
     → ((judged : List Judged) → HasJudged units unit (known_of old.own) (known_of old.window) queue copies history grants judged
     → HaveAnswers units unit old.own.unit queue history grants → ∥ HaveAnswers units' unit old.own.unit queue' history' grants' ∥₁)
     → IsReceived units copies grants history unit old → IsReceived units' copies' grants' history' unit new
-received_served units units' unit old new queue queue' copies copies' grants grants' history history' session taken session' taken' turn begun behind gone agrees sees seen name answers is = record {
+received_served units units' unit old new queue queue' copies copies' grants grants' history history' session taken session' taken' turn begun behind gone served agrees sees seen name answers is = record {
   judged = ∥∥₁_elim is.judged ∥∥₁_prop
       (λ before. ∥∥₁_map
       (turn before.0 (judged_seen units units unit (known_of old.own) (known_of old.own) (known_of old.window) (known_of old.window) (end_of [] old.link true) queue copies copies history grants before.0 refl refl
@@ -130,6 +132,7 @@ received_served units units' unit old new queue queue' copies copies' grants gra
   begun = begun;
   behind = behind;
   gone = gone;
+  served = served;
   agrees = agrees;
   answers = ∥∥₁_elim is.judged ∥∥₁_prop
       (λ before. ∥∥₁_elim is.answers ∥∥₁_prop
@@ -170,6 +173,7 @@ received_elsewhere units units' k unit other own client copies copies' grants gr
   begun = is.begun;
   behind = is.behind;
   gone = is.gone;
+  served = is.served;
   agrees = agrees_other units units' k (end_of [] other.link true) same is.agrees;
   answers = ∥∥₁_elim rows ∥∥₁_prop
       (λ only. ∥∥₁_map₂ lines is.answers
@@ -201,6 +205,7 @@ received_driven units copies grants history old new driven are k pair found =
       begun = subst AreBegun (sym d.server_taken) is.begun;
       behind = behind_driven from.0 pair d is.behind;
       gone = gone_driven from.0 pair d is.gone;
+      served = begun_driven from.0 pair d is.served;
       agrees = agrees_like units k (end_of [] from.0.link true) (end_of [] pair.link true) d.server_registered is.agrees;
       answers = ∥∥₁_map is.answers
           (λ owed.
@@ -215,7 +220,7 @@ both_bools : (b : Bool) → b ≡ true → b ≡ false → ⊥
 both_bools b is other = cc (is, other)
 
 -- Before the first turn.
-pub received_fresh : (units : List Unit) (copies : List CopyRecord) (grants : List Grant) (history : List Served) (pairs : List Pair) → copies ≡ [] → grants ≡ [] → history ≡ [] → AwaitNone units → AreUnused units → OweNone units → AreDown units → AreClosed pairs → AreFresh pairs
+pub received_fresh : (units : List Unit) (copies : List CopyRecord) (grants : List Grant) (history : List Served) (pairs : List Pair) → copies ≡ [] → grants ≡ [] → history ≡ [] → AwaitNone units → AreUnused units → OweNone units → AreDown units → AreClosed pairs → AreNew pairs
     → AreReceived units copies grants history pairs
 received_fresh units copies grants history pairs none no_lines no_rows waits unused unowed down closed fresh k pair found = record {
   judged = ∣ (
@@ -233,6 +238,7 @@ received_fresh units copies grants history pairs none no_lines no_rows waits unu
     says = λ event there. absurd (no_event event (sym (fresh k pair found).kept ∙ there));
     gone = λ on. absurd (both_bools (side_of pair.link true).registered on (closed k pair found).server);
   };
+  served = record { sent = λ zero. (fresh k pair found).sent; kept = λ zero. (fresh k pair found).event };
   agrees = IfSome_then (slice_get units k) (down k) (λ u is. record { down = λ off. (closed k pair found).server; on = λ up. absurd (up is) });
   answers = ∣ subst (λ (lines : List Grant). HaveAnswers units k pair.own.unit (end_of [] pair.link true) history lines) (sym no_lines)
       (subst (λ (rows : List Served). HaveAnswers units k pair.own.unit (end_of [] pair.link true) rows []) (sym no_rows) (unowed k pair.own.unit (end_of [] pair.link true))) ∣₁;

@@ -47,6 +47,13 @@ use Rattle.vio_trace.specs.declared.rows.QueueRow.{QueueRow}
 use Rattle.vcpu_run.specs.declared.unit_seat.Seat.TheVariants as sits
 use Rattle.vcpu_run.specs.declared.unit_seat.UnitSeat.{UnitSeat}
 use Rattle.vcpu_run.specs.CopyRows.{same_unit}
+use Rattle.block_server.specs.Ready.{HasNothing}
+use Rattle.block_server.specs.Receipts.{EndedFor}
+use Rattle.vcpu_run.specs.Received.{AreAtRest}
+use Rattle.vcpu_run.specs.ShutShown.{AreShutTold, HadEnd}
+use Rattle.vcpu_run.proofs.Settling.{emptied}
+use Rattle.vcpu_run.proofs.ShutAtRest.{shut_at_rest}
+use Rattle.vcpu_run.proofs.ShutKept.{lines_shut_more}
 use Rattle.vcpu_run.specs.DropsShown.{AreDropsTold, IsFullAt, drops_to}
 use Rattle.vcpu_run.specs.LinesShow.{LinesShow, Sees, seen_at}
 use Rattle.vcpu_run.specs.Pairs.{AreOfOneHome, IsDriver}
@@ -151,9 +158,9 @@ trace_sees partitions pairs scripts lan rows history grants copies client server
 
 pub refusals_are : (pairs : List Pair) (scripts : List Script) (lan : LanValue) (lan_rows : LanRows) (history : List Served) (grants : List Grant) (copies : List CopyRecord) (partitions : List Partition)
     → AreOfOneHome copies pairs → AreScripts pairs lan.seats scripts → All (HasLawfulQueue pairs) (seats_of scripts) → All (HasLawfulWindow pairs lan) (seats_of scripts)
-    → IsOfPlan partitions pairs scripts lan.seats → All IsOver scripts → AreTold pairs scripts
+    → IsOfPlan partitions pairs scripts lan.seats → All IsOver scripts → AreTold pairs scripts → AreAtRest copies grants history pairs scripts
     → RefusalsAreTold partitions (trace_of pairs scripts lan lan_rows history grants copies)
-refusals_are pairs scripts lan lan_rows history grants copies partitions home are lawful windows of_plan over told client server is none =
+refusals_are pairs scripts lan lan_rows history grants copies partitions home are lawful windows of_plan over told rests client server is none =
     let p = client.partition in
     let at = script_at partitions pairs scripts lan.seats client (units.Client server is.0 is.1) of_plan is.2 in
     let script = at.0 in
@@ -199,6 +206,12 @@ refusals_are pairs scripts lan lan_rows history grants copies partitions home ar
     λ e. values_are pairs scripts lan lan_rows history grants copies are windows own_seat pair.0.window own_inside window e ∙ script_is.put client.unit server.unit pair.0 at.2 pair.1 e in
     let there = held (λ (pair : Pair). pair.server ≡ server) (slice_get pairs server.unit) (of_plan.pairs_are.servers server (of_plan.sound.served client server is)) in
     let same : pair.0.server ≡ server = ap (λ (x : Pair). x.server) (some_is pair.0 there.0 (sym pair.1 ∙ there.1)) ∙ there.2 in
+    let empty = emptied rests.units pairs scripts lan.seats partitions server pair.0 are lawful of_plan rests.idle (of_plan.sound.served client server is) pair.1 same in
+    let u = held HasNothing (slice_get rests.units server.unit) empty.1 in
+    let shut : AreShutTold trace client server script.lines.now script.logs.items =
+    lines_shut_more (HadEnd pair.0.link) (∥ ((session : ℕ) × EndedFor server session trace.grants) ∥₁) client.unit script.lines.now script.logs.items
+    (shut_at_rest rests.units copies grants history server.unit pair.0 server u.0 u.1 empty.0.registered ((home.pairs_are server.unit pair.0 pair.1).own_unit ∙ same)
+    (rests.received server.unit pair.0 pair.1)) (script_is.shown client.unit server.unit pair.0 at.2 pair.1).shut in
     let given : IsClientGiven trace client server (ended_by client.unit script.lines.now script.logs.items) =
     client_takes partitions pairs scripts lan lan_rows history grants copies client server (ended_by client.unit script.lines.now script.logs.items) pair.0
     (λ driver. driver.unit ≡ unit_of script.partition client.unit) are lawful of_plan is pair.1 pair.2 (home.pairs_are server.unit pair.0 pair.1).driver (script_is.taken.kept client.unit server.unit pair.0 at.2 pair.1) sees same in
@@ -214,6 +227,8 @@ refusals_are pairs scripts lan lan_rows history grants copies partitions home ar
           (subst (λ (rows : List LogRow). EventsAreFew trace server script.lines.now (ended_by client.unit script.lines.now rows)) (sym (own_records pairs scripts lan p script are at.1)) few);
       drops = subst (λ (ls : List Line). AreDropsTold trace client server ls (filter (λ (row : LogRow). row.partition == p) (flat_map logs_of scripts))) (sym lines)
           (subst (λ (rows : List LogRow). AreDropsTold trace client server script.lines.now rows) (sym (own_records pairs scripts lan p script are at.1)) drops);
+      shut = subst (λ (ls : List Line). AreShutTold trace client server ls (filter (λ (row : LogRow). row.partition == p) (flat_map logs_of scripts))) (sym lines)
+          (subst (λ (rows : List LogRow). AreShutTold trace client server script.lines.now rows) (sym (own_records pairs scripts lan p script are at.1)) shut);
       put = subst (λ (ls : List Line). AreValuesTold trace client (ended_by client.unit ls (filter (λ (row : LogRow). row.partition == p) (flat_map logs_of scripts)))) (sym lines)
           (subst (λ (rows : List LogRow). AreValuesTold trace client (ended_by client.unit script.lines.now rows)) (sym (own_records pairs scripts lan p script are at.1)) put);
       takes = subst (λ (ls : List Line). AreAnswersTaken trace client (ended_by client.unit ls (filter (λ (row : LogRow). row.partition == p) (flat_map logs_of scripts)))) (sym lines)

@@ -10,8 +10,6 @@ use Rattle.vcpu_run.specs.declared.script.Script.{Script}
 use Rattle.vcpu_run.specs.Machines.{AllRun, AllStay, AreScripts, IsNumbered, Stays}
 use Rattle.vcpu_run.specs.Ports.{HasPorts, unit_of}
 use Rattle.vcpu_run.specs.Scripts.{IsScript, IsSeat, OnlyRuns}
-use Rattle.vcpu_run.specs.CallsSaid.{seen_from}
-use Rattle.vcpu_run.proofs.CallsGrow.{calls_more, seen_grows}
 use Rattle.vcpu_run.proofs.Keeping.{driver_keeps}
 use Rattle.vcpu_run.proofs.Listed.{each_on, each_same, each_set, each_then, held, held_is, held_then}
 
@@ -31,8 +29,6 @@ script_stays old new script stay is = record {
   in_order = is.in_order;
   at = is.at;
   logs = is.logs;
-  called = calls_more (seen_from script.partition script.seats.items old) (seen_from script.partition script.seats.items new) script.lines.now script.logs.items
-      (seen_grows script.partition script.seats.items old new stay) is.called;
 }
 
 numbered_stays : (old new : List Pair) (ports : List PortSeat) (i : ℕ) (script : Script) → AllStay old new → IsNumbered old ports i script → IsNumbered new ports i script

@@ -226,11 +226,11 @@ port_ends_taken pairs script done line row found one sits many lines seats logs 
 -- before the first line
 pub new_taken : (pairs : List Pair) (script : Script) → script.logs.items ≡ [] → script.progress ≡ progress.Fresh → AreUntaken pairs → IsScriptTaken pairs script
 new_taken pairs script logs fresh untaken = record {
-  kept = λ unit k pair at now. subst (λ (own : List Ended). PairTaken own pair) (sym (none unit)) (taken_none pair (untaken k pair now).0).0;
+  kept = λ unit k pair at now. subst (λ (own : List Ended). PairTaken own pair) (sym (none unit)) (taken_none pair (untaken k pair now).3 (untaken k pair now).0).0;
   up_to = fresh_up_to script script.progress (slice_get script.lines.now script.at) fresh;
   agrees = λ l next ok unit k pair at now. subst (λ (own : List Ended). PairAgrees own (progress_by unit script) pair) (sym (none unit))
       (subst (λ (q : Progress). PairAgrees [] q pair) (sym (ap (λ (p : Progress). progress_at unit p (slice_get script.lines.now script.at)) fresh ∙ fresh_at unit (slice_get script.lines.now script.at)))
-      (taken_none pair (untaken k pair now).0).1);
+      (taken_none pair (untaken k pair now).3 (untaken k pair now).0).1);
 }
   where
     empty : (unit : ℕ) (lines : List Line) → ended_by unit lines [] ≡ []

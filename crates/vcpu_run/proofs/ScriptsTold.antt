@@ -25,7 +25,8 @@ use Rattle.vcpu_run.specs.declared.unit_seat.Seat.TheVariants as places
 use Rattle.vcpu_run.specs.Agreed.{AreLoggedOut, IsLoggedOut, OnDrivers, driver_in}
 use Rattle.vcpu_run.specs.Freeing.{is_reset}
 use Rattle.vcpu_run.specs.Credited.{Ended, ended_by, is_take, taken_in}
-use Rattle.vcpu_run.specs.DropsShown.{IsFullAt, LinesFull, PairShowsLine}
+use Rattle.vcpu_run.specs.DropsShown.{IsFullAt, IsFullIf, LinesFull}
+use Rattle.vcpu_run.specs.ShutShown.{HadEnd, LinesShut}
 use Rattle.vcpu_run.specs.LinesShow.{IsShown, LinesShow, Seen, read_by, requests, seen_at, seen_between, written_by, further_of}
 use Rattle.vcpu_run.specs.Pairs.{AreDriven}
 use Rattle.vcpu_run.specs.Refusals.{HasCausesTold, tag_of, tags_told}
@@ -56,9 +57,11 @@ use Rattle.vcpu_run.proofs.Askings.{plain_ends}
 use Rattle.vcpu_run.proofs.Driving.{client_is, driven_same, no_port, same_or, some_is}
 use Rattle.vcpu_run.proofs.GivesAll.{all_give_same}
 use Rattle.vcpu_run.proofs.FurtherKept.{no_further, unanswered}
-use Rattle.vcpu_run.proofs.DropsKept.{drives_more, more_same}
-use Rattle.vcpu_run.proofs.DropsShown.{full_none}
-use Rattle.vcpu_run.proofs.LinesShown.{drives_sees, fail_shows, fails_plain, no_row, sees_same, shows_none}
+use Rattle.vcpu_run.proofs.DropsKept.{more_same}
+use Rattle.vcpu_run.proofs.EndedShown.{ended_shown, still_shown}
+use Rattle.vcpu_run.proofs.ShutKept.{pair_shut_none, shut_none}
+use Rattle.vcpu_run.proofs.ShutTold.{ends_shut}
+use Rattle.vcpu_run.proofs.LinesShown.{fail_shows, fails_plain, no_row, sees_same, shows_none}
 use Rattle.vcpu_run.proofs.LoginsTold.{true_false}
 use Rattle.vcpu_run.proofs.Sayings.{is_logout, is_own, says_nothing}
 use Rattle.vcpu_run.proofs.ScriptsTaken.{clients_taken, ends_taken, fail_ends_taken, fail_waits_taken, new_taken, over_taken, port_ends_taken, port_waits_taken, waits_taken}
@@ -67,26 +70,6 @@ use Rattle.vcpu_run.proofs.Sole.{pairs_from_ordered}
 use Rattle.vcpu_run.proofs.TakesTold.{takes_none, took_told}
 use Rattle.vcpu_run.proofs.TakingTurns.{took_taken}
 use Rattle.vcpu_run.proofs.Tellings.{ended, ends_told, said_more, same_told, tags_more}
-
--- what the lines that ended did is there still, and more was put behind their requests
-pub still_shown : (old new : List Pair) (script : Script) → AreSeats script.partition script.seats.items old → AreDriven old new
-    → AtSeats script.seats.items old (PairShown script) → AtSeats script.seats.items new (PairShown script)
-still_shown old new script are driven is unit k after at now =
-    let b = before_of script.partition unit k script.seats.items old new after are driven at now in
-    shown_on script unit b.pair after b.drives.unit (drives_sees b.pair after b.drives) (drives_more b.pair after b.drives) (is unit k b.pair at b.there)
-
--- the current line ended, which shows at the pair of its client what it did
-ended_shown : (old new : List Pair) (script done : Script) (line : Line) (row : LogRow) → slice_get script.lines.now script.at ≡ Some line → length script.logs.items ≡ script.at
-    → done.lines ≡ script.lines → done.seats ≡ script.seats → done.logs.items ≡ script.logs.items ++ row ∷ [] → AreSeats script.partition script.seats.items old → AreDriven old new
-    → AtSeats script.seats.items old (PairShown script)
-    → ((unit k : ℕ) (before after : Pair) → slice_get script.seats.items unit ≡ Some (places.Client k) → slice_get old k ≡ Some before → slice_get new k ≡ Some after
-    → line.unit ≡ unit → PairShowsLine line before after (Ok (steps.Ends row.outcome)))
-    → AtSeats done.seats.items new (PairShown done)
-ended_shown old new script done line row found many lines seats logs are driven is last unit k after at now =
-    let here : slice_get script.seats.items unit ≡ Some (places.Client k) = subst (λ ss. slice_get ss.items unit ≡ Some (places.Client k)) seats at in
-    let b = before_of script.partition unit k script.seats.items old new after are driven here now in
-    one_shown script done unit b.pair after line row found many lines logs b.drives.unit (drives_sees b.pair after b.drives) (drives_more b.pair after b.drives)
-    (λ same. last unit k b.pair after here b.there now same) (is unit k b.pair here b.there)
 
 -- a step of the pair's own line that waits
 waits_pair : (verb : Verb) (p p' : Progress) (own : List Ended) (before after : Pair) (did : Moved) → IsSomeAnd before.driver (λ d. Unit {0}) → length after.window.pages ≡ length before.window.pages
@@ -224,7 +207,13 @@ client_ends old new script done line row seat p' found one sits are driven many 
   shown = ended_shown old new script done line row found many lines seats logs are driven is.shown
       (λ unit k before after at was now same.
       let seat_is : seat ≡ k = client_is seat k (sym sits ∙ (ap (slice_get script.seats.items) same ∙ at)) in
-      step.shows before after (ap (slice_get old) seat_is ∙ was) (ap (slice_get new) seat_is ∙ now));
+      step.shows before after (ap (slice_get old) seat_is ∙ was) (ap (slice_get new) seat_is ∙ now))
+      (λ unit k before after at was now same has drives.
+      let seat_is : seat ≡ k = client_is seat k (sym sits ∙ (ap (slice_get script.seats.items) same ∙ at)) in
+      ends_shut line.verb script.progress (own_of unit script) before after row.outcome has drives of
+      (subst (λ (q : Progress). PairIsTold (own_of unit script) q before) (here_by unit script.progress line (slice_get script.lines.now script.at) found (eq-eqb line.unit unit same))
+      (is.told line found one unit k before at was)) (is.taken.kept unit k before at was)
+      (step.shows before after (ap (slice_get old) seat_is ∙ was) (ap (slice_get new) seat_is ∙ now)).2);
   taken = ends_taken old new script done line row seat p' found one sits are driven many step lines seats logs fresh is.taken;
   put = λ unit k after at now. put unit k after (back unit k at) now (here_or line.unit unit);
   few = λ unit k after at now. few_any unit done.lines.now (resets_told (own_of unit done)) done.progress (slice_get done.lines.now done.at) after
@@ -332,6 +321,7 @@ port_ends_told pairs script done line row found one sits many lines seats logs f
       (subst (λ (q : Progress). PairIsTold (own_of unit script) q pair) (else_by unit script.progress line (slice_get script.lines.now script.at) found (not_port script line unit k sits here))
       (is.told line found one unit k pair here now)));
   shown = λ unit k pair at now. one_shown script done unit pair pair line row found many lines logs refl (sees_same (seen_at pair)) (more_same pair)
+      (λ same. absurd (no_port k (sym (back unit k at) ∙ (ap (slice_get script.seats.items) (sym same) ∙ sits))))
       (λ same. absurd (no_port k (sym (back unit k at) ∙ (ap (slice_get script.seats.items) (sym same) ∙ sits)))) (is.shown unit k pair (back unit k at) now);
   taken = port_ends_taken pairs script done line row found one sits many lines seats logs fresh is.taken;
   put = λ unit k pair at now. let here = back unit k at in
@@ -400,6 +390,7 @@ new_told pairs script logs fresh out untaken = record {
     order = subst (λ (rows : List LogRow). AreSentIn (seen_at pair) pair.window.unit unit script.lines.now rows (entries_put pair)) (sym logs)
         (order_begun (seen_at pair) pair.window.unit unit script.lines.now (entries_put pair));
     drops = subst (λ (rows : List LogRow). LinesFull (IsFullAt pair) unit script.lines.now rows) (sym logs) (λ i line row found there same. absurd (no_row row there));
+    shut = subst (λ (rows : List LogRow). LinesShut (HadEnd pair.link) unit script.lines.now rows) (sym logs) (λ i line row found there same. absurd (no_row row there));
   };
   taken = new_taken pairs script logs fresh untaken;
   put = λ unit k pair at now. subst (λ (own : List Ended). AreValuesPut own pair) (sym (none unit)) (first_values pair (untaken k pair now).1);
@@ -517,7 +508,7 @@ waiting_hears p verb outcome pair ends = at pair.driver
         none_lost (Ok (steps.Ends outcome)) d.client d.client (end_of [] pair.link false) (end_of [] pair.link false) (none ends)
         (hears_same d.client d.client (end_of [] pair.link false) (end_of [] pair.link false) refl refl refl)
 
-waiting_shows : (p : Progress) (verb : Verb) (outcome : Outcome) (seen : Seen) (unit : UnitId) (mark : ℕ) → EndsWaiting p verb outcome → IsShown seen unit mark verb outcome
+pub waiting_shows : (p : Progress) (verb : Verb) (outcome : Outcome) (seen : Seen) (unit : UnitId) (mark : ℕ) → EndsWaiting p verb outcome → IsShown seen unit mark verb outcome
 waiting_shows p verb outcome seen unit mark (of_login v o) = shows_none seen unit mark verb outcome (ap requests v) (ap written_by v) (ap read_by v) (unanswered seen (further_of verb) outcome o)
 waiting_shows p verb outcome seen unit mark (of_reset v o) = shows_none seen unit mark verb outcome (ap requests v) (ap written_by v) (ap read_by v) (unanswered seen (further_of verb) outcome o)
 waiting_shows p verb outcome seen unit mark (of_take count v o) =
@@ -528,6 +519,12 @@ waiting_plain : (p : Progress) (verb : Verb) (outcome : Outcome) → EndsWaiting
 waiting_plain p verb outcome (of_login v o) = ap requests v
 waiting_plain p verb outcome (of_reset v o) = ap requests v
 waiting_plain p verb outcome (of_take count v o) = ap requests v
+
+-- it was not dropped
+waiting_full : (P : (number held : ℕ) → Type 0) (p : Progress) (verb : Verb) (outcome : Outcome) → EndsWaiting p verb outcome → IsFullIf P outcome
+waiting_full P p verb outcome (of_login v o) = subst (IsFullIf P) (sym o) tt
+waiting_full P p verb outcome (of_reset v o) = subst (IsFullIf P) (sym o) tt
+waiting_full P p verb outcome (of_take count v o) = subst (IsFullIf P) (sym o) tt
 
 -- and gives no data
 waiting_reads : (p : Progress) (verb : Verb) (outcome : Outcome) (pair : Pair) → EndsWaiting p verb outcome → PairReads verb pair pair (Ok (steps.Ends outcome))
@@ -566,7 +563,8 @@ waiting_told pairs script done line row found suited are many ends lines seats l
         gives = all_give_same pairs;
         shows = λ before after b a. (
           waiting_shows script.progress line.verb row.outcome (seen_between before after) after.window.unit line.number ends,
-          full_none (IsFullAt after) line.verb (Ok (steps.Ends row.outcome)) (waiting_plain script.progress line.verb row.outcome ends),
+          waiting_full (IsFullAt after) script.progress line.verb row.outcome ends,
+          pair_shut_none line.verb before after (Ok (steps.Ends row.outcome)) (waiting_plain script.progress line.verb row.outcome ends),
         );
       };
       port = λ at. refl;
@@ -649,8 +647,10 @@ fail_ends_told old new script done line row found failing are driven gives same 
   shown = ended_shown old new script done line row found many lines seats logs are driven is.shown
       (λ unit k before after at was now same. (
         fail_shows (seen_between before after) after.window.unit line.number line.verb row.outcome failing,
-        full_none (IsFullAt after) line.verb (Ok (steps.Ends row.outcome)) (fails_plain line.verb failing),
-      ));
+        subst (IsFullIf (IsFullAt after)) (sym done_is) tt,
+        pair_shut_none line.verb before after (Ok (steps.Ends row.outcome)) (fails_plain line.verb failing),
+      ))
+      (λ unit k before after at was now same has drives. shut_none (HadEnd after.link) line.verb (Ok (steps.Ends row.outcome)) (fails_plain line.verb failing));
   taken = fail_ends_taken old new script done line row found failing driven gives many done_is lines seats logs over is.taken;
   put = λ unit k after at now. put unit after (put_on old new script are driven same is unit k after (subst (λ ss. slice_get ss.items unit ≡ Some (places.Client k)) seats at) now) (here_or line.unit unit);
   few = λ unit k after at now.

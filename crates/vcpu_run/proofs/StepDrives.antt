@@ -18,8 +18,12 @@ use Rattle.vcpu_run.specs.declared.pair.Pair.{Pair}
 use Rattle.vcpu_run.specs.AnswersSeen.{AreResponsesRead, fronts_of}
 use Rattle.vcpu_run.specs.Announces.{Announces}
 use Rattle.vcpu_run.specs.Pairs.{Drives, GoesOn, IsDriver}
+use Rattle.vcpu_run.specs.ClientSlots.{HoldsSlots}
+use Rattle.vcpu_run.specs.Reached.{IfReached, IsBlankBefore}
 use Rattle.vcpu_run.specs.Works.{Works}
+use Rattle.vcpu_run.proofs.SlotsKept.{slots_same}
 use Rattle.vcpu_run.proofs.Announcing.{both_bools, puts_at, puts_same}
+use Rattle.vcpu_run.proofs.Reached.{blank_as, blank_then}
 
 -- the driver is that of the window as it was
 driver_goes : {mark : Option ℕ} (may_free : Bool) (a b : List GName) (old window : WindowValue) (lent link : PlainLink) (f g : Bool) (driver driver' : Driver)
@@ -31,7 +35,8 @@ driver_goes may_free a b old window lent link f g driver driver' works is =
       unit = ap (λ (place : PortPlace). place.unit) place ∙ (is.unit ∙ sym works.unit);
       pages = subst (λ n. MIN_PAGES ≤ n) (sym size) is.pages;
       rows = subst (λ n. FitRows n driver'.client) (sym size) (works.rows is.rows);
-      answers = works.answers is.answers;
+      slots = works.slots is.slots;
+      answers = works.answers is.slots is.answers;
     }
 
 pub step_drives : {mark : Option ℕ} (may_free f g : Bool) (a b : List GName) (old : Pair) (driver driver' : Driver) (lent link : PlainLink) (window : WindowValue)
@@ -67,6 +72,8 @@ step_drives {mark} may_free f g a b old driver driver' lent link window some sam
               server_session = subst (λ (m : PlainLink). (end_of b link false).counts.partner_session ≡ (end_of a m false).counts.partner_session) e session;
               server_taken = ap (λ (p : EndPlace). p.partner_taken) before;
               puts = subst (λ (m : PlainLink). Announces (end_of [] m false) (end_of [] link false)) e puts;
+              reached = subst (λ (o : Option Driver). IfReached o (side_of old.link false).queue.sent → IsBlankBefore driver'.client (side_of link false).queue.sent) (sym some)
+                  (subst (λ (m : PlainLink). IsBlankBefore driver.client (side_of m false).queue.sent → IsBlankBefore driver'.client (side_of link false).queue.sent) e (w.reached refl));
               alone = subst (λ (o : Option Driver). IfNone o ((end_of [] link false).registered ≡ (end_of [] old.link false).registered)) (sym some) tt;
             }
     at l e true d' at_client same_end w puts = absurd (both_bools true refl at_client)
@@ -92,6 +99,8 @@ freed_drives old driver driver' some unit noted client = record {
   server_session = refl;
   server_taken = refl;
   puts = puts_same (end_of [] old.link false);
+  reached = subst (λ (o : Option Driver). IfReached o (side_of old.link false).queue.sent → IsBlankBefore driver'.client (side_of old.link false).queue.sent) (sym some)
+      (λ is none. blank_then driver.client driver'.client (blank_as driver.client driver'.client (unlinked driver.client) client (record { granted = λ g. g; held = λ h. h })) (is none));
   alone = subst (λ (o : Option Driver). IfNone o ((side_of old.link false).registered ≡ (side_of old.link false).registered)) (sym some) tt;
 }
   where
@@ -100,5 +109,6 @@ freed_drives old driver driver' some unit noted client = record {
       unit = is.unit ∙ sym unit;
       pages = is.pages;
       rows = subst (λ s. FitRows (length old.window.pages) s) (sym client) is.rows;
+      slots = subst HoldsSlots (sym client) (slots_same driver.client (unlinked driver.client) refl refl is.slots);
       answers = subst (λ rows. AreResponsesRead (fronts_of (strokes_at old.window.pages)) rows) (sym (ap (λ rows. rows.items) noted)) is.answers;
     }

@@ -45,7 +45,7 @@ pub law_told : {E : Type 0} (r : Result Trace E) (o : Option Trace) (pairs : Lis
     → IfOk r (KeepsOnce (All IsOver scripts) RecordsAreOfLines pairs scripts ports) → All IsOver scripts
     → IfOk r (KeepsOnce (AreCredited pairs scripts) CreditsAreKept pairs scripts ports) → AreCredited pairs scripts
     → IfOk r (KeepsOnce (All IsOver scripts) (λ partitions trace. AreCredited pairs scripts → ClientsAreLogged partitions trace) pairs scripts ports)
-    → IfOk r (KeepsOnce (All IsOver scripts) (λ partitions trace. AreTold pairs scripts → RefusalsAreTold partitions trace) pairs scripts ports) → AreTold pairs scripts
+    → IfOk r (KeepsOnce (All IsOver scripts) (λ partitions trace. AreTold pairs scripts → AreAtRest copies_made lines history pairs scripts → RefusalsAreTold partitions trace) pairs scripts ports) → AreTold pairs scripts
     → IfOk r (KeepsOnce (AreAnswered history pairs) AnswersAreSent pairs scripts ports) → AreAnswered history pairs
     → IfOk r (Keeps PortsKeepLaw pairs scripts ports) → (lan : LanValue)
     → IfOk r (KeepsOnce (All IsOver scripts) (λ partitions trace. PortsEnd lan scripts → PortsAreTold partitions trace) pairs scripts ports) → PortsEnd lan scripts
@@ -58,7 +58,7 @@ pub law_told : {E : Type 0} (r : Result Trace E) (o : Option Trace) (pairs : Lis
     → IfOk r (KeepsOnce (AreAtRest copies_made lines history pairs scripts) LinesAreExplained pairs scripts ports)
     → IfOk r (KeepsOnce (AreAnswered history pairs) (λ partitions trace. AreAtRest copies_made lines history pairs scripts → LoginsAreSent partitions trace) pairs scripts ports)
     → IfOk r (KeepsOnce (AreAnswered history pairs) (λ partitions trace. AreAtRest copies_made lines history pairs scripts → LoginsAreAnswered partitions trace) pairs scripts ports)
-    → IfOk r (KeepsOnce (PortsEnd lan scripts) CallsAreSaid pairs scripts ports)
+    → IfOk r (KeepsOnce (PortsEnd lan scripts) (λ partitions trace. AreCredited pairs scripts → CallsAreSaid partitions trace) pairs scripts ports)
     → AreAtRest copies_made lines history pairs scripts
     → IfSome o (Keeps KeepsLawOf pairs scripts ports)
 law_told (Ok trace) o pairs scripts ports history copies_made lines e order queues copies records over credits are logged refusals said answers answered keeps lan words tells settled handed intake requests given copied explained logins dealt called rests =
@@ -68,10 +68,10 @@ law_told (Ok trace) o pairs scripts ports history copies_made lines e order queu
       queues = queues partitions of_plan;
       copies = copies partitions of_plan;
       records = records partitions of_plan over;
-      called = called partitions of_plan tells;
+      called = called partitions of_plan tells are;
       credits = credits partitions of_plan are;
       logged = logged partitions of_plan over are;
-      refusals = refusals partitions of_plan over said;
+      refusals = refusals partitions of_plan over said rests;
       answers = answers partitions of_plan answered;
       ports = keeps partitions of_plan;
       told = words partitions of_plan over tells;

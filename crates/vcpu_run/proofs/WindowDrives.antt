@@ -34,5 +34,6 @@ window_drives old window keeps = record {
   server_session = refl;
   server_taken = refl;
   puts = puts_same (end_of [] old.link false);
+  reached = λ is. is;
   alone = alone_same old.driver (side_of old.link false).registered;
 }

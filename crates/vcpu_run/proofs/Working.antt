@@ -30,9 +30,12 @@ use Rattle.vcpu_run.proofs.Calls.{submit_grows, submit_fits, task_grows, task_fi
 use Rattle.vcpu_run.proofs.Announcing.{both_bools}
 use Rattle.vcpu_run.specs.EventsPut.{MakesNoEvent}
 use Rattle.vcpu_run.proofs.Calming.{calm_on, calm_ready, calm_same, turn_calm}
+use Rattle.vcpu_run.proofs.Reached.{KeepsBlank, blank_as, blank_same, logout_blank, reaches_by, submit_blank, take_blank, task_blank, turn_reaches}
 use Rattle.vcpu_run.proofs.Requesting.{logout_more, puts_sends, sends_calm, submit_more, task_more}
 use Rattle.unit_region.specs.Kept.{KeepsWindow}
 use Rattle.unit_region.proofs.Laws.{keeps_on, keeps_reads, keeps_same, keeps_writes, none_under}
+use Rattle.vcpu_run.specs.ClientSlots.{HoldsSlots}
+use Rattle.vcpu_run.proofs.SlotsKept.{logout_slots, slots_same, submit_slots, take_slots, task_slots, turn_slots}
 use Rattle.vcpu_run.proofs.CallsLay.{logout_lays, none_laid_then, reads_none_laid, same_none_laid, submit_lays, task_lays, turn_lays, under_then}
 
 -- no stroke more, whichever mark these would bear
@@ -45,7 +48,7 @@ lays_on shared None o p q unit first next = none_laid_then shared o p q first ne
 lays_on shared (Some mark) o p q unit first next = under_then shared shared mark o p q refl unit first next
 
 pub works_same : {mark : Option ℕ} (mf cs shared : Bool) (end : EndState) (own : PortState) (driver : Driver) → Works mf cs shared mark end end own own driver driver
-works_same {mark} mf cs shared end own driver = record { place = refl; session = λ alone. refl; stays = λ none kept. kept; puts = λ alone. puts_same end; calm = λ none. calm_same end end refl refl; window = keeps_same shared own; lays = lays_same shared mark own; unit = refl; rows = λ fit. fit; answers = λ read. read }
+works_same {mark} mf cs shared end own driver = record { place = refl; session = λ alone. refl; stays = λ none kept. kept; puts = λ alone. puts_same end; calm = λ none. calm_same end end refl refl; window = keeps_same shared own; lays = lays_same shared mark own; unit = refl; rows = λ fit. fit; slots = λ has. has; answers = λ has read. read; reached = λ alone is. is }
 
 pub works_on : {mark : Option ℕ} (mf cs shared : Bool) (e f g : EndState) (o p q : PortState) (a b c : Driver) → Works mf cs shared mark e f o p a b → Works mf cs shared mark f g p q b c
     → Works mf cs shared mark e g o q a c
@@ -59,7 +62,9 @@ works_on {mark} mf cs shared e f g o p q a b c first next = record {
   lays = lays_on shared mark o p q (ap (λ place. place.unit) first.window.place) first.lays next.lays;
   unit = next.unit ∙ first.unit;
   rows = λ fit. subst (λ n. FitRows n c.client) size (next.rows (subst (λ n. FitRows n b.client) (sym size) (first.rows fit)));
-  answers = λ read. next.answers (first.answers read);
+  slots = λ has. next.slots (first.slots has);
+  answers = λ has read. next.answers (first.slots has) (first.answers has read);
+  reached = λ alone is. next.reached alone (first.reached alone is);
 }
   where
     size : p.place.size ≡ o.place.size
@@ -83,7 +88,9 @@ submit_works cs os end end' own own' driver driver' line op result unit noted fi
   lays = submit_lays line op driver.client driver'.client (ports cs end os own) (ports cs end' os own') result refused sent why;
   unit = unit;
   rows = submit_fits line op driver.client driver'.client (ports cs end os own) (ports cs end' os own') result fits refused sent why;
-  answers = responses_keep os own own' driver.answers.items driver'.answers.items (keeps_writes os own own' rest (submit_grows line op driver.client driver'.client (ports cs end os own) (ports cs end' os own') result refused sent why)) noted;
+  slots = submit_slots line op driver.client driver'.client (ports cs end os own) (ports cs end' os own') result refused sent why;
+  answers = λ has. responses_keep os own own' driver.answers.items driver'.answers.items (keeps_writes os own own' rest (submit_grows line op driver.client driver'.client (ports cs end os own) (ports cs end' os own') result refused sent why)) noted;
+  reached = λ alone. reaches_by driver.client driver'.client end end' (submit_blank line op driver.client driver'.client (ports cs end os own) (ports cs end' os own') result refused sent why) crq.place;
 }
 
 pub task_works : (cs os : Bool) (end end' : EndState) (own own' : PortState) (driver driver' : Driver) (line function task : ℕ) (result : Result ℕ Refused)
@@ -104,7 +111,9 @@ task_works cs os end end' own own' driver driver' line function task result unit
   lays = task_lays line function task driver.client driver'.client (ports cs end os own) (ports cs end' os own') result refused sent why;
   unit = unit;
   rows = task_fits own.place.size line function task driver.client driver'.client (ports cs end os own) (ports cs end' os own') result sent same;
-  answers = responses_keep os own own' driver.answers.items driver'.answers.items (keeps_writes os own own' rest (task_grows line function task driver.client driver'.client (ports cs end os own) (ports cs end' os own') result refused sent why)) noted;
+  slots = task_slots line function task driver.client driver'.client (ports cs end os own) (ports cs end' os own') result sent same;
+  answers = λ has. responses_keep os own own' driver.answers.items driver'.answers.items (keeps_writes os own own' rest (task_grows line function task driver.client driver'.client (ports cs end os own) (ports cs end' os own') result refused sent why)) noted;
+  reached = λ alone. reaches_by driver.client driver'.client end end' (task_blank line function task driver.client driver'.client (ports cs end os own) (ports cs end' os own') result sent same) crq.place;
 }
 
 pub logout_works : (cs os : Bool) (end end' : EndState) (own own' : PortState) (driver driver' : Driver) (line : ℕ) (result : Result ℕ Refused)
@@ -125,7 +134,9 @@ logout_works cs os end end' own own' driver driver' line result unit noted refus
   lays = logout_lays line driver.client driver'.client (ports cs end os own) (ports cs end' os own') result refused sent why;
   unit = unit;
   rows = logout_fits own.place.size line driver.client driver'.client (ports cs end os own) (ports cs end' os own') result sent same;
-  answers = responses_keep os own own' driver.answers.items driver'.answers.items (keeps_writes os own own' rest (logout_grows line driver.client driver'.client (ports cs end os own) (ports cs end' os own') result refused sent why)) noted;
+  slots = logout_slots line driver.client driver'.client (ports cs end os own) (ports cs end' os own') result sent same;
+  answers = λ has. responses_keep os own own' driver.answers.items driver'.answers.items (keeps_writes os own own' rest (logout_grows line driver.client driver'.client (ports cs end os own) (ports cs end' os own') result refused sent why)) noted;
+  reached = λ alone. reaches_by driver.client driver'.client end end' (logout_blank line driver.client driver'.client (ports cs end os own) (ports cs end' os own') result sent same) crq.place;
 }
 
 pub turn_works : (cs os : Bool) (end end' : EndState) (own own' : PortState) (driver driver' : Driver) (line : ℕ) (result : Result LoginTurn NoMemory)
@@ -142,7 +153,9 @@ turn_works cs os end end' own own' driver driver' line result unit noted turned 
   lays = turn_lays line (site driver.client (ports cs end os own)) (site driver'.client (ports cs end' os own')) result turned;
   unit = unit;
   rows = turn_fits own.place.size line (site driver.client (ports cs end os own)) (site driver'.client (ports cs end' os own')) result turned;
-  answers = responses_keep os own own' driver.answers.items driver'.answers.items (keeps_writes os own own' rest (turn_grows line (site driver.client (ports cs end os own)) (site driver'.client (ports cs end' os own')) result turned)) noted;
+  slots = turn_slots line (site driver.client (ports cs end os own)) (site driver'.client (ports cs end' os own')) result turned;
+  answers = λ has. responses_keep os own own' driver.answers.items driver'.answers.items (keeps_writes os own own' rest (turn_grows line (site driver.client (ports cs end os own)) (site driver'.client (ports cs end' os own')) result turned)) noted;
+  reached = λ alone. turn_reaches line (site driver.client (ports cs end os own)) (site driver'.client (ports cs end' os own')) result alone turned;
 }
 
 pub take_works : (cs os : Bool) (end end' : EndState) (own own' : PortState) (driver driver' : Driver) (client : ClientState) (result : Result Taken NoMemory)
@@ -150,7 +163,8 @@ pub take_works : (cs os : Bool) (end end' : EndState) (own own' : PortState) (dr
     → IfOk result (TakesEntry driver.client client (ports cs end os own) (ports cs end' os own'))
     → OnErr result (TakesLater cs driver.client client end end')
     → OnlyTakes cs end end' → OnlyReads os own own'
-    → (AreResponsesRead (fronts_of own'.strokes) driver.answers.items → AreResponsesRead (fronts_of own'.strokes) driver'.answers.items) → Works false cs os None end end' own own' driver driver'
+    → (HoldsSlots driver.client → AreResponsesRead (fronts_of own'.strokes) driver.answers.items → AreResponsesRead (fronts_of own'.strokes) driver'.answers.items)
+    → Works false cs os None end end' own own' driver driver'
 take_works cs os end end' own own' driver driver' client result unit is taken later crq rest noted = record {
   place = crq.place;
   session = crq.counts.same_session;
@@ -161,7 +175,10 @@ take_works cs os end end' own own' driver driver' client result unit is taken la
   lays = reads_none_laid os own own' rest;
   unit = unit;
   rows = λ fit. subst (FitRows own.place.size) (sym is) (take_fits own.place.size driver.client client (ports cs end os own) (ports cs end' os own') result taken later fit);
-  answers = λ read. noted (responses_keep os own own' driver.answers.items driver.answers.items (keeps_reads os own own' rest) refl read);
+  slots = λ has. subst HoldsSlots (sym is) (take_slots driver.client client (ports cs end os own) (ports cs end' os own') result taken later has);
+  answers = λ has read. noted has (responses_keep os own own' driver.answers.items driver.answers.items (keeps_reads os own own' rest) refl read);
+  reached = λ alone. reaches_by driver.client driver'.client end end'
+      (blank_as driver.client driver'.client client is (take_blank driver.client client (ports cs end os own) (ports cs end' os own') result taken later)) crq.place;
 }
 
 -- the same where the queue may be freed, too
@@ -176,7 +193,9 @@ works_any mf cs shared e f o p a b works = record {
   lays = works.lays;
   unit = works.unit;
   rows = works.rows;
+  slots = works.slots;
   answers = works.answers;
+  reached = works.reached;
 }
 
 -- the same by other words
@@ -197,14 +216,17 @@ works_marked mark mf cs shared e f o p a b works = record {
   lays = none_under shared mark o p works.lays;
   unit = works.unit;
   rows = works.rows;
+  slots = works.slots;
   answers = works.answers;
+  reached = works.reached;
 }
 
 -- at the end alone
 pub works_end : {mark : Option ℕ} (mf cs shared : Bool) (e f : EndState) (own : PortState) (a b : Driver) → f.place ≡ e.place
     → (cs ≡ false → f.counts.partner_session ≡ e.counts.partner_session) → (mf ≡ false → FreesNone e f) → (cs ≡ false → Announces e f) → (mf ≡ false → MakesNoEvent e f)
-    → b.unit ≡ a.unit → b.answers.items ≡ a.answers.items → (FitRows own.place.size a.client → FitRows own.place.size b.client) → Works mf cs shared mark e f own own a b
-works_end {mark} mf cs shared e f own a b place session stays puts calm unit noted rows = record {
+    → b.unit ≡ a.unit → b.answers.items ≡ a.answers.items → (FitRows own.place.size a.client → FitRows own.place.size b.client) → (HoldsSlots a.client → HoldsSlots b.client) → KeepsBlank a.client b.client
+    → Works mf cs shared mark e f own own a b
+works_end {mark} mf cs shared e f own a b place session stays puts calm unit noted rows slots blank = record {
   place = place;
   session = session;
   stays = stays;
@@ -214,14 +236,16 @@ works_end {mark} mf cs shared e f own a b place session stays puts calm unit not
   lays = lays_same shared mark own;
   unit = unit;
   rows = rows;
-  answers = λ read. subst (AreResponsesRead (fronts_of own.strokes)) (sym noted) read;
+  slots = slots;
+  answers = λ has read. subst (AreResponsesRead (fronts_of own.strokes)) (sym noted) read;
+  reached = λ alone. reaches_by a.client b.client e f blank place;
 }
 
 -- room was made
 pub works_ready : {mark : Option ℕ} (mf cs shared : Bool) (e f : EndState) (own : PortState) (a : Driver) → OnlyReserves e f → Works mf cs shared mark e f own own a a
 works_ready mf cs shared e f own a ready =
     works_end mf cs shared e f own a a ready.place (λ alone. ap (λ counts. counts.partner_session) ready.counts)
-    (λ none. frees_none e f ready.last_session ready.registered) (λ alone. puts_reserves e f ready) (λ none. calm_ready e f ready) refl refl (λ fit. fit)
+    (λ none. frees_none e f ready.last_session ready.registered) (λ alone. puts_reserves e f ready) (λ none. calm_ready e f ready) refl refl (λ fit. fit) (λ has. has) (blank_same a.client)
 
 -- the queue was freed, and the client was told
 pub works_freed : {mark : Option ℕ} (cs shared : Bool) (e f : EndState) (own : PortState) (a b : Driver) → TellsFreed cs e f → OnlyFrees cs e f → b.unit ≡ a.unit → b.answers.items ≡ a.answers.items
@@ -229,6 +253,8 @@ pub works_freed : {mark : Option ℕ} (cs shared : Bool) (e f : EndState) (own :
 works_freed cs shared e f own a b tells rest unit noted client =
     works_end true cs shared e f own a b rest.place rest.counts.same_session (λ none. absurd (both_bools true refl none))
     (λ alone. puts_freed cs e f partner_freed alone refl tells) (λ none. absurd (both_bools true refl none)) unit noted (λ fit. subst (λ s. FitRows own.place.size s) (sym client) fit)
+    (λ has. subst HoldsSlots (sym client) (slots_same a.client (unlinked a.client) refl refl has))
+    (blank_as a.client b.client (unlinked a.client) client (record { granted = λ is. is; held = λ is. is }))
 
 -- bytes were written into the window, or read there, or a value was put into it
 pub works_window : {mark : Option ℕ} (mf cs shared : Bool) (end : EndState) (own own' : PortState) (a b : Driver) → KeepsWindow shared own own' → LaysBy shared mark own own' → b.unit ≡ a.unit → b.answers.items ≡ a.answers.items
@@ -243,5 +269,7 @@ works_window mf cs shared end own own' a b keeps lays unit noted client = record
   lays = lays;
   unit = unit;
   rows = λ fit. subst (λ s. FitRows own.place.size s) (sym client) fit;
-  answers = responses_keep shared own own' a.answers.items b.answers.items keeps noted;
+  slots = λ has. subst HoldsSlots (sym client) has;
+  answers = λ has. responses_keep shared own own' a.answers.items b.answers.items keeps noted;
+  reached = λ alone. reaches_by a.client b.client end end (blank_as a.client b.client a.client client (blank_same a.client)) refl;
 }

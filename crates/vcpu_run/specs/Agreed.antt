@@ -11,9 +11,9 @@ use Rattle.vcpu_run.specs.declared.script.Script.{Script}
 use Rattle.unit_region.specs.declared.step.Step.{Step}
 use Rattle.vcpu_run.specs.declared.unit_seat.Seat.{Seat}
 use Rattle.vcpu_run.specs.declared.unit_seat.Seat.TheVariants as sits
-use Rattle.vcpu_run.specs.ClientStrokes.{LogsStrokes}
 use Rattle.vcpu_run.specs.Credited.{Agrees, IsFresh, KeepsCredit, StepsAgreed, StepsPort, credit_after, ended_by, taken_in}
 use Rattle.vcpu_run.specs.Freeing.{NoneSits}
+use Rattle.vcpu_run.specs.ScriptLogs.{LogsLines}
 use Rattle.vcpu_run.specs.Sendings.{SameCredits}
 
 -- P of a driver before and after, where there is one
@@ -92,7 +92,7 @@ SameBeside seat old new = (k : ℕ) → k ≢ seat → slice_get new k ≡ slice
 abbrev pub SameElse : List Seat → List Pair → List Pair → Type 0
 SameElse seats old new = (k : ℕ) → NoneSits seats k → slice_get new k ≡ slice_get old k
 
--- the records of each script keep the credits of its units, and its clients agree with them; and each stroke that one laid in its own region
--- bears the number of one of its lines
+-- the records of each script keep the credits of its units, and its clients agree with them; each stroke that one laid in its own region
+-- bears the number of one of its lines; and the records say of raw calls what they may
 abbrev pub AreCredited : List Pair → List Script → Type 0
-AreCredited pairs scripts = (i : ℕ) (script : Script) → slice_get scripts i ≡ Some script → IsCredited pairs script × LogsStrokes pairs script
+AreCredited pairs scripts = (i : ℕ) (script : Script) → slice_get scripts i ≡ Some script → IsCredited pairs script × LogsLines pairs script

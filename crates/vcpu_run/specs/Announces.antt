@@ -24,8 +24,8 @@ abbrev pub IsOnItsWay : Entry → List PipeRow → EndState → Type 0
 IsOnItsWay event rows end = IsKept event end.registered end.kept ⊎ IsAmong event end.counts.partner_session rows
 
 -- an event tells that the own queue is gone
-abbrev pub IsTold : List PipeRow → EndState → Type 0
-IsTold rows end = (event : Entry) × (first_byte event ≡ 0xFF) × IsOnItsWay event rows end
+abbrev pub IsAnnounced : List PipeRow → EndState → Type 0
+IsAnnounced rows end = (event : Entry) × (first_byte event ≡ 0xFF) × IsOnItsWay event rows end
 
 -- Each of these rows has an event, and what is kept is one.
 abbrev pub HaveEvents : List PipeRow → Type 0
@@ -41,7 +41,7 @@ pub record Announces (old new : EndState) : Type 0 where
   pub rows : List PipeRow
   pub sent : new.sent ≡ old.sent ++ rows
   pub kept : (event : Entry) → IsKept event old.registered old.kept → old.place.partner_registered ≡ true → IsOnItsWay event rows new
-  pub freed : old.registered ≡ true → new.registered ≡ false → old.place.partner_registered ≡ true → IsTold rows new
+  pub freed : old.registered ≡ true → new.registered ≡ false → old.place.partner_registered ≡ true → IsAnnounced rows new
   pub says : KeepsEvent old.kept → KeepsEvent new.kept
-  pub off : KeepsEvent old.kept → new.registered ≡ false → old.place.partner_registered ≡ true → HaveEvents rows ⊎ IsTold rows new
+  pub off : KeepsEvent old.kept → new.registered ≡ false → old.place.partner_registered ≡ true → HaveEvents rows ⊎ IsAnnounced rows new
   pub drops : DropsStay old.drops new.drops

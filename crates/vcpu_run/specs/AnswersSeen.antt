@@ -8,17 +8,19 @@ use Rattle.srp_iu.specs.declared.unit.Iu.TheVariants as units
 use Rattle.vio_trace.specs.declared.rows.AnswerRow.{AnswerRow}
 pub use Rattle.unit_region.specs.RegionLines.{IsFront}
 use Rattle.vscsi_client.specs.Units.{slot_address}
+use Rattle.vscsi_client.specs.declared.TheConstants.{SLOTS}
 
 -- which lists of strokes are a front of each page's, by what lies on the pages of a window
 abbrev pub fronts_of : (ℕ → Option (List StrokeValue)) → (page : ℕ) → Option (List StrokeValue) → Type 0
 fronts_of strokes page front = IsFront front (strokes page)
 
--- The response that an answer spells was read in a slot of the region: its bytes are what the pages gave, each with a front of its
+-- The response that an answer spells was read in one of the 200 slots with which the region begins: its bytes are what the pages gave, each with a front of its
 -- strokes.
 pub record IsResponseRead (front_at : (page : ℕ) → Option (List StrokeValue) → Type 0) (row : AnswerRow) : Type 0 where
   pub response : Response
   pub canonical : Canon row.answer (units.Rsp response)
   pub slot : ℕ
+  pub within : slot < SLOTS
   pub bytes : List ℕ
   pub spells : Spells bytes (units.Rsp response)
   pub fronts : ℕ → Option (List StrokeValue)

@@ -1,6 +1,6 @@
 -- What a client's records and its answers tell of each other: which entries it took as answers, how many its lines took, and of
 -- which commands it has the data (SRP, "SRP_RSP response").
-use Rattle.std.specs.Prelude.{◌≡◌, ◌⊎◌, ℕ, ◌+◌, ◌≤◌, ◌==◌, ◌&&◌, Bool, true, false, All, List, [], ◌∷◌, ◌++◌, filter, length, map, take, ⊤, if◌then◌else◌}
+use Rattle.std.specs.Prelude.{◌≡◌, ℕ, ◌+◌, ◌≤◌, ◌==◌, ◌&&◌, Bool, true, false, All, List, [], ◌∷◌, ◌++◌, filter, length, map, take, ⊤, if◌then◌else◌}
 use Rattle.std.specs.List.{list_any}
 use Rattle.vio_num.specs.Entry.{is_srp_entry}
 use Rattle.vio_num.specs.declared.entry.Entry.{Entry}
@@ -15,16 +15,11 @@ use Rattle.vio_trace.specs.declared.outcome.Outcome.{Outcome}
 use Rattle.vio_trace.specs.declared.outcome.Outcome.TheVariants as outcomes
 use Rattle.vio_trace.specs.declared.rows.AnswerRow.{AnswerRow}
 use Rattle.vio_trace.specs.declared.rows.Trace.{Trace}
+pub use Rattle.vcpu_run.specs.Among.{AreAmong}
 use Rattle.vcpu_run.specs.CopyRows.{same_unit}
 use Rattle.vcpu_run.specs.Credited.{Ended}
 use Rattle.vcpu_run.specs.EventsHeard.{LossesAreHeard}
 use Rattle.vcpu_run.specs.Intake.{entries_taken}
-
--- each of the first tags stands among the second, in the same order, and no two at one place
-abbrev pub AreAmong : List ℕ → List ℕ → Type 0
-AreAmong [] others = ⊤
-AreAmong (tag ∷ tags) [] = ⊥
-AreAmong (tag ∷ tags) (other ∷ others) = ((tag ≡ other) × AreAmong tags others) ⊎ AreAmong (tag ∷ tags) others
 
 -- the tags of the SRP entries among these, and among what was taken
 abbrev pub tags_among : List Entry → List ℕ

@@ -17,8 +17,8 @@ use Rattle.vcpu_run.specs.declared.pair.Pair.{Pair}
 use Rattle.vcpu_run.specs.declared.unit_seat.Seat.{Seat}
 use Rattle.vcpu_run.specs.CallRows.{SaysCall}
 pub use Rattle.vcpu_run.specs.CallsAnswered.{IfDone, IsUnitSaid}
-use Rattle.vcpu_run.specs.CallsAnswered.{UnitSeen, unit_seen}
-use Rattle.vcpu_run.specs.RawCalls.{kind_of, pair_of}
+use Rattle.vcpu_run.specs.CallsAnswered.{UnitSeen, pair_of, unit_seen, unit_then}
+use Rattle.vcpu_run.specs.PortCalls.{kind_of}
 
 -- The units of a partition: what they are, and what there is of each.
 pub record UnitsSeen : Type 1 where
@@ -35,6 +35,13 @@ units_seen partition seat pairs = record {
 abbrev pub seen_from : (partition : ℕ) → List Seat → List Pair → UnitsSeen
 seen_from partition seats pairs = units_seen partition (slice_get seats) pairs
 
+-- the same as the line of this number ended
+abbrev pub seen_then : (number partition : ℕ) → List Seat → List Pair → UnitsSeen
+seen_then number partition seats pairs = record {
+  place = record { partition = partition; kind = λ unit. kind_of (slice_get seats unit) };
+  of_unit = λ unit. unit_then number (pair_of pairs (slice_get seats unit));
+}
+
 -- A record of a raw call of this number, with these arguments, in a partition of these units: it is a code of the number's row, or a
 -- value where the row gives one; a number without a row is Function, and no other is. A call is Parameter where the unit that it
 -- names is not of the partition, or not of the row's kind; else it says what it may at that unit.
@@ -48,10 +55,11 @@ abbrev pub IsSaidOf : UnitsSeen → Verb → Outcome → Type 0
 IsSaidOf seen (verbs.Hcall number args) outcome = IsCallSaid seen number args outcome
 IsSaidOf seen verb outcome = ⊤
 
--- the same of each line that has a record: the records are those of the first lines, in their order
-abbrev pub CallsSaid : UnitsSeen → List Line → List LogRow → Type 0
+-- the same of each line that has a record, by what there was as the line of this number ended: the records are those of the first lines, in
+-- their order
+abbrev pub CallsSaid : ((number : ℕ) → UnitsSeen) → List Line → List LogRow → Type 0
 CallsSaid seen lines rows =
-    (i : ℕ) (line : Line) (row : LogRow) → slice_get lines i ≡ Some line → slice_get rows i ≡ Some row → IsSaidOf seen line.verb row.outcome
+    (i : ℕ) (line : Line) (row : LogRow) → slice_get lines i ≡ Some line → slice_get rows i ≡ Some row → IsSaidOf (seen line.number) line.verb row.outcome
 
 -- the same of a step that ended its line
 abbrev pub StepSaid : UnitsSeen → Verb → Step → Type 0

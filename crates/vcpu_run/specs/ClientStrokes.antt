@@ -14,7 +14,8 @@ use Rattle.vcpu_run.specs.declared.pair.Pair.{Pair}
 use Rattle.vcpu_run.specs.declared.script.Script.{Script}
 use Rattle.vcpu_run.specs.declared.unit_seat.Seat.{Seat}
 use Rattle.vcpu_run.specs.declared.unit_seat.Seat.TheVariants as sits
-use Rattle.vcpu_run.specs.PortRegions.{IsCurrent, IsLogged, LinesTold, strokes_shown}
+use Rattle.vcpu_run.specs.LinesRead.{ClientLines}
+use Rattle.vcpu_run.specs.PortRegions.{IsCurrent, IsLogged, strokes_shown}
 use Rattle.vcpu_run.specs.Ports.{unit_of}
 use Rattle.vcpu_run.specs.Settled.{script_of}
 use Rattle.vcpu_run.specs.Shown.{pages_at, records_of, stroke_value, strokes_on}
@@ -50,10 +51,11 @@ abbrev pub PairLogs : List Line → List LogRow → (at : ℕ) → UnitId → Pa
 PairLogs lines rows at unit pair = (page : ℕ) (stroke : StrokeValue) → IsOn stroke (strokes_at pair.window.pages page) → stroke.name.who ≡ unit
     → IsLogged unit lines rows stroke.name.mark ⊎ IsCurrent unit lines at stroke.name.mark
 
--- So is it of the client of a pair, and each of its lines that has a record says what was so of its region as it ended.
+-- So is it of the client of a pair, and each of its lines that has a record says what was so of its region as it ended, with the answers to
+-- its logins.
 pub record PairRecords (lines : List Line) (rows : List LogRow) (at : ℕ) (unit : UnitId) (pair : Pair) : Type 0 where
   pub logged : PairLogs lines rows at unit pair
-  pub told : LinesTold (strokes_at pair.window.pages) (length pair.window.pages) unit lines rows
+  pub told : ClientLines (strokes_at pair.window.pages) (length pair.window.pages) unit lines rows
 
 -- the same of the clients of a script
 abbrev pub LogsStrokes : List Pair → Script → Type 0
@@ -68,11 +70,11 @@ abbrev pub AreBare : List Pair → Type 0
 AreBare pairs = (k : ℕ) (pair : Pair) → slice_get pairs k ≡ Some pair → IsBare pair
 
 -- Each stroke that a client laid in its own region bears the number of one of its lines that have a record, and these say what was so of its
--- region as they ended.
+-- region as they ended, with the answers to its logins.
 pub record IsClientLogged (partitions : List Partition) (trace : Trace) (client : UnitId) : Type 0 where
   pub logged : (page : ℕ) → page < pages_at partitions client → (stroke : StrokeValue) → Contains (map stroke_value (strokes_on trace client page)) stroke
       → stroke.name.who ≡ client → IsLogged client (script_of partitions client.partition) (records_of trace client.partition) stroke.name.mark
-  pub told : LinesTold (strokes_shown trace (pages_at partitions client) client) (pages_at partitions client) client (script_of partitions client.partition)
+  pub told : ClientLines (strokes_shown trace (pages_at partitions client) client) (pages_at partitions client) client (script_of partitions client.partition)
       (records_of trace client.partition)
 
 -- so is it of each client of a plan, whatever lines its partition has

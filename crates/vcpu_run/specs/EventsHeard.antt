@@ -66,8 +66,8 @@ StepHears (Ok step) s s' end end' = Hears (lost_in step) s s' end end'
 StepHears (Err memory) s s' end end' = ⊤
 
 -- each loss that the records tell has an event of its own among what was taken, and those that wait are others
-abbrev pub AreHeard : List Ended → ClientState → List PipeRow → Type 0
-AreHeard own s taken = losses_told own + events_waiting s ≤ events_taken taken
+abbrev pub AreEventsHeard : List Ended → ClientState → List PipeRow → Type 0
+AreEventsHeard own s taken = losses_told own + events_waiting s ≤ events_taken taken
 
 -- A client's records say no more often that its partner was lost than events were handed to it.
 abbrev pub LossesAreHeard : Trace → UnitId → List Ended → Type 0

@@ -31,8 +31,8 @@ abbrev pub srp_taken : Trace → UnitId → List PipeRow
 srp_taken trace unit = srp_rows (entries_taken trace unit)
 
 -- what it took in session q
-abbrev pub taken_in : Trace → UnitId → (q : ℕ) → List Entry
-taken_in trace unit q = flat_map (λ row. row.taken) (filter (λ row. row.session == q) (sessions_of trace unit))
+abbrev pub taken_in_session : Trace → UnitId → (q : ℕ) → List Entry
+taken_in_session trace unit q = flat_map (λ row. row.taken) (filter (λ row. row.session == q) (sessions_of trace unit))
 
 -- the copies of a unit
 abbrev pub copies_shown : Trace → UnitId → List CopyRow
@@ -56,8 +56,8 @@ pub record IsFetched (own client : Side) (entry : Entry) (bytes : List ℕ) (cop
 
 -- The entry stands at its number among those taken in its session. Its copy fetched its information unit, of the length that it
 -- says; or it has none, and a line says for which cause its session ended.
-pub record IsShown (partitions : List Partition) (trace : Trace) (server client : UnitId) (receipt : Receipt) : Type 0 where
-  pub there : slice_get (taken_in trace server receipt.session) receipt.number ≡ Some receipt.entry
+pub record IsReceiptShown (partitions : List Partition) (trace : Trace) (server client : UnitId) (receipt : Receipt) : Type 0 where
+  pub there : slice_get (taken_in_session trace server receipt.session) receipt.number ≡ Some receipt.entry
   pub fetched : MatchOption receipt.copy (EndedFor server receipt.session trace.grants)
       (IsFetched (window_shown partitions trace server) (window_shown partitions trace client) receipt.entry receipt.bytes)
   pub long : IfSome receipt.copy (λ _. length receipt.bytes ≡ iu_length receipt.entry)
@@ -68,7 +68,7 @@ pub record IsTakenIn (partitions : List Partition) (trace : Trace) (server clien
   pub receipts : List Receipt
   pub entries : map row_of receipts ≡ srp_taken trace server
   pub copies : map copy_row (filter_map copy_of receipts) ≡ fetches_shown trace server
-  pub each : All (IsShown partitions trace server client) receipts
+  pub each : All (IsReceiptShown partitions trace server client) receipts
   pub last : AllPairs GoesOn receipts
 
 -- of each server unit that has a client

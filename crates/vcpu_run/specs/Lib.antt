@@ -1,4 +1,5 @@
 pub mod Agreed
+pub mod Among
 pub mod Announces
 pub mod Answered
 pub mod AnswersSeen
@@ -10,6 +11,7 @@ pub mod CallsSaid
 pub mod CallsShown
 pub mod Caused
 pub mod ClientMoments
+pub mod ClientSlots
 pub mod ClientStrokes
 pub mod Commands
 pub mod CopyRows
@@ -32,6 +34,7 @@ pub mod Heard
 pub mod Holding
 pub mod Intake
 pub mod Lines
+pub mod LinesRead
 pub mod LinesShow
 pub mod Links
 pub mod LoginsSent
@@ -57,12 +60,15 @@ pub mod Ports
 pub mod PortsRest
 pub mod Quietly
 pub mod RawCalls
+pub mod Reached
 pub mod Received
 pub mod Refusals
+pub mod RegionThen
 pub mod Replay
 pub mod Requests
 pub mod RowsCopied
 pub mod RunLaw
+pub mod ScriptLogs
 pub mod ScriptTold
 pub mod Scripts
 pub mod Sendings
@@ -70,6 +76,7 @@ pub mod SentOrder
 pub mod Sessions
 pub mod Settled
 pub mod Shown
+pub mod ShutShown
 pub mod StrokeMakers
 pub mod Suited
 pub mod TakenScripts

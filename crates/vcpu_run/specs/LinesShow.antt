@@ -1,5 +1,5 @@
 -- What is there once a client's line said that it sent a request, or wrote into its region: its strokes, and the entry that was put.
-use Rattle.std.specs.Prelude.{◌≡◌, ℕ, ◌<◌, ◌≤◌, Bool, true, false, List, [], ◌∷◌, ◌++◌, IfSome, MatchBool, Option, Some, None, Result, Ok, length, ⊤}
+use Rattle.std.specs.Prelude.{◌≡◌, ℕ, ◌<◌, ◌≤◌, Bool, true, false, List, [], ◌∷◌, ◌++◌, IfSome, IsSome, MatchBool, Option, Some, None, Result, Ok, length, ⊤}
 use Rattle.std.specs.List.{Contains, slice_get}
 use Rattle.vio_num.specs.Entry.{srp_entry}
 use Rattle.vio_num.specs.declared.entry.Entry.{Entry}
@@ -38,7 +38,7 @@ use Rattle.vcpu_run.specs.AnswersSeen.{IsFront}
 use Rattle.vcpu_run.specs.Commands.{IsOpOf, cdb_of}
 use Rattle.vcpu_run.specs.Replay.{asks}
 
--- What there is of a client's lines: the strokes on the pages of its region, which lists of them are a front of a page's, the values of
+-- What there is of a client's lines: the strokes on the pages of its region, with which lists of strokes a page is read, the values of
 -- its window's entries, and the entries in its server unit's queue.
 pub record Seen : Type 1 where
   pub stroke_at : (page : ℕ) → StrokeValue → Type 0
@@ -112,25 +112,27 @@ further_of verbs.Reset = Some LogsIn
 further_of (verbs.Tce entry page readable writable) = Some (PutsValue entry (tce_of page readable writable))
 further_of _ = None
 
--- A unit was read in a slot of the region: its bytes are what the pages gave, each with a front of its strokes.
-pub record IsUnitRead (seen : Seen) (iu : Iu) : Type 0 where
+-- A unit was read in a slot of the region, or in the place behind them: its bytes are what the pages gave, each with a list of strokes with which
+-- it is read.
+pub record IsUnitRead (region : RegionSeen) (iu : Iu) : Type 0 where
   pub slot : ℕ
+  pub within : slot ≤ SLOTS
   pub bytes : List ℕ
   pub spells : Spells bytes iu
-  pub read : AreRead seen (slot_address slot) bytes
+  pub read : AreReadIn region (slot_address slot) bytes
 
 -- a response that was read grants these credits, or a rejection says this reason
-abbrev pub IsGrantRead : Seen → (credits : ℕ) → Type 0
-IsGrantRead seen credits = (response : LoginResponse) × (response.delta ≡ credits) × IsUnitRead seen (units.LoginRsp response)
+abbrev pub IsGrantRead : RegionSeen → (credits : ℕ) → Type 0
+IsGrantRead region credits = (response : LoginResponse) × (response.delta ≡ credits) × IsUnitRead region (units.LoginRsp response)
 
-abbrev pub IsRejectionRead : Seen → (reason : ℕ) → Type 0
-IsRejectionRead seen reason = (rejection : Rejection) × (rejection.reason ≡ reason) × IsUnitRead seen (units.LoginRej rejection)
+abbrev pub IsRejectionRead : RegionSeen → (reason : ℕ) → Type 0
+IsRejectionRead region reason = (rejection : Rejection) × (rejection.reason ≡ reason) × IsUnitRead region (units.LoginRej rejection)
 
 -- what there is of the answer to a login
-abbrev pub IsAnswerRead : Seen → Outcome → Type 0
-IsAnswerRead seen (outcomes.Granted credits) = IsGrantRead seen credits
-IsAnswerRead seen (outcomes.Rejected reason) = IsRejectionRead seen reason
-IsAnswerRead seen _ = ⊤
+abbrev pub IsAnswerRead : RegionSeen → Outcome → Type 0
+IsAnswerRead region (outcomes.Granted credits) = IsGrantRead region credits
+IsAnswerRead region (outcomes.Rejected reason) = IsRejectionRead region reason
+IsAnswerRead region _ = ⊤
 
 -- a value is one of its entry, where the line says that it was put
 abbrev pub IsValuePut : Seen → (entry value : ℕ) → Outcome → Type 0
@@ -138,7 +140,7 @@ IsValuePut seen entry value (outcomes.Code codes.Success) = seen.value_at entry 
 IsValuePut seen entry value _ = ⊤
 
 abbrev pub FurtherShows : Seen → Further → Outcome → Type 0
-FurtherShows seen LogsIn outcome = IsAnswerRead seen outcome
+FurtherShows seen LogsIn outcome = IsAnswerRead (region_of seen) outcome
 FurtherShows seen (PutsValue entry value) outcome = IsValuePut seen entry value outcome
 
 abbrev pub IsFurtherShown : Seen → Option Further → Outcome → Type 0
@@ -175,16 +177,25 @@ seen_at pair = record {
   entry_put = λ entry. IsPut entry (side_of pair.link true).queue.sent;
 }
 
+-- the same, where a page is read with all that it has
+abbrev pub seen_now : Pair → Seen
+seen_now pair = record {
+  stroke_at = λ page stroke. IsOn stroke (strokes_at pair.window.pages page);
+  front_at = λ page front. (front ≡ strokes_at pair.window.pages page) × IsSome front;
+  value_at = λ entry value. Contains ((known_of pair.window).values entry) value;
+  entry_put = λ entry. IsPut entry (side_of pair.link true).queue.sent;
+}
+
 -- An entry was put by an end: in the present session of its partner's queue, which is registered where nobody else has a hand in it.
 pub record IsPutBy (shared : Bool) (end : EndState) (entry : Entry) : Type 0 where
   pub there : Contains end.sent (record { session = end.counts.partner_session; entry = entry })
   pub partner : shared ≡ false → end.place.partner_registered ≡ true
 
--- what there is at a client's window and its end, as its driver sees them
+-- what there is at a client's window and its end, as its driver sees them: a page is read with all that it has
 abbrev pub seen_by : (shared : Bool) → PortState → EndState → Seen
 seen_by shared port end = record {
   stroke_at = λ page stroke. IsOn stroke (port.strokes page);
-  front_at = λ page front. IsFront front (port.strokes page);
+  front_at = λ page front. (front ≡ port.strokes page) × IsSome front;
   value_at = λ entry value. Contains (port.values entry) value;
   entry_put = IsPutBy shared end;
 }
@@ -194,11 +205,11 @@ pub record PutsOne (shared : Bool) (old new : EndState) (entry : Entry) : Type 0
   pub sent : new.sent ≡ old.sent ++ record { session = new.counts.partner_session; entry = entry } ∷ []
   pub partner : shared ≡ false → new.place.partner_registered ≡ true
 
--- what its driver sees once a step of a line was made: of entries the one that was put
+-- what its driver sees once a step of a line was made: a page is read with all that it has, and of entries there is the one that was put
 abbrev pub seen_since : (shared : Bool) → PortState → (old new : EndState) → Seen
 seen_since shared port old new = record {
   stroke_at = λ page stroke. IsOn stroke (port.strokes page);
-  front_at = λ page front. IsFront front (port.strokes page);
+  front_at = λ page front. (front ≡ port.strokes page) × IsSome front;
   value_at = λ entry value. Contains (port.values entry) value;
   entry_put = PutsOne shared old new;
 }
@@ -210,11 +221,11 @@ pub record PairPutsOne (old new : Pair) (entry : Entry) : Type 0 where
   pub entry_is : row.entry ≡ entry
   pub begun : 1 ≤ row.session
 
--- what there is at a client's pair once a step of a line was made
+-- what there is at a client's pair once a step of a line was made: a page is read with all that it has
 abbrev pub seen_between : (old new : Pair) → Seen
 seen_between old new = record {
   stroke_at = λ page stroke. IsOn stroke (strokes_at new.window.pages page);
-  front_at = λ page front. IsFront front (strokes_at new.window.pages page);
+  front_at = λ page front. (front ≡ strokes_at new.window.pages page) × IsSome front;
   value_at = λ entry value. Contains ((known_of new.window).values entry) value;
   entry_put = PairPutsOne old new;
 }

@@ -1,6 +1,7 @@
 -- What is so of a machine between the turns of its partitions, and what its pairs, its scripts and its ports have of a plan.
 use Rattle.std.specs.Prelude.{◌≡◌, ◌≢◌, ℕ, ◌*◌, ◌≤◌, true, false, List, [], ◌∷◌, Option, Some, None, IsSomeAnd, MatchOption, length, map, suc, zero, if◌then◌else◌}
 use Rattle.std.specs.List.{slice_get}
+use Rattle.vio_num.specs.Words.{Begins}
 use Rattle.vio_num.specs.declared.names.UnitId.{UnitId}
 use Rattle.crq_session.specs.PlainState.{side_of}
 use Rattle.crq_session.specs.declared.TheConstants.{PAGE_SLOTS}
@@ -12,6 +13,7 @@ use Rattle.boot_text.specs.declared.plan.Partition.{Partition}
 use Rattle.boot_text.specs.declared.plan.UnitPlan.{UnitPlan}
 use Rattle.boot_text.specs.declared.plan.UnitPlan.TheVariants as units
 use Rattle.lan_script.specs.declared.seat.PortSeat.{PortSeat}
+use Rattle.tce_window.specs.PlainPort.{known_of}
 use Rattle.vcpu_run.specs.declared.driver.Driver.{Driver}
 use Rattle.vcpu_run.specs.declared.pair.ClientSeat.{ClientSeat}
 use Rattle.vcpu_run.specs.declared.pair.Pair.{Pair}
@@ -74,7 +76,7 @@ abbrev pub KeepsDriver : Option Driver → Option Driver → Type 0
 KeepsDriver old new = MatchOption old (new ≡ None) (λ driver. IsSomeAnd new (λ later. later.unit ≡ driver.unit))
 
 -- What no turn changes of a pair: the server unit, the slots of both queues, the size of the client's region, whose driver
--- it has, and whose windows they are.
+-- it has, whose windows they are, and how much of the client's is held.
 pub record Stays (old new : Pair) : Type 0 where
   pub server : new.server ≡ old.server
   pub server_slots : (side_of new.link true).queue.slots ≡ (side_of old.link true).queue.slots
@@ -83,12 +85,18 @@ pub record Stays (old new : Pair) : Type 0 where
   pub driver : KeepsDriver old.driver new.driver
   pub own_unit : new.own.unit ≡ old.own.unit
   pub client_unit : new.window.unit ≡ old.window.unit
+  pub held : new.window.held_count ≡ old.window.held_count
 
--- the same of all pairs, and what there was at each is there still
+-- each entry of the client's window has the values that it had, and others behind them
+abbrev pub KeepsEntries : (old new : Pair) → Type 0
+KeepsEntries old new = (entry : ℕ) → Begins ((known_of old.window).values entry) ((known_of new.window).values entry)
+
+-- the same of all pairs, what there was at each is there still, and each entry of its client's window has the values that it had, and others behind them
 pub record AllStay (old new : List Pair) : Type 0 where
   pub count : length new ≡ length old
   pub each : (k : ℕ) (pair : Pair) → slice_get old k ≡ Some pair → IsSomeAnd (slice_get new k) (Stays pair)
   pub sees : (k : ℕ) (pair : Pair) → slice_get old k ≡ Some pair → IsSomeAnd (slice_get new k) (λ later. Sees (seen_at pair) (seen_at later))
+  pub values : (k : ℕ) (pair : Pair) → slice_get old k ≡ Some pair → IsSomeAnd (slice_get new k) (KeepsEntries pair)
 
 -- server unit k of a partition
 abbrev pub server_id : (home : ℕ) → ℕ → UnitId

@@ -19,13 +19,17 @@ use Rattle.vcpu_run.specs.declared.driver.Driver.{Driver}
 use Rattle.vcpu_run.specs.declared.pair.Pair.{Pair}
 use Rattle.vcpu_run.specs.Announces.{Announces}
 use Rattle.vcpu_run.specs.AnswersSeen.{AreResponsesRead, fronts_of}
+use Rattle.vcpu_run.specs.ClientSlots.{HoldsSlots}
+use Rattle.vcpu_run.specs.Reached.{IfReached}
 use Rattle.vcpu_run.specs.Named.{HasNames, WindowsAreApart, absent_unit}
 
--- A client's driver is that of its window's unit; the data of its commands lie in the window, and its answers were read there.
+-- A client's driver is that of its window's unit; the data of its commands lie in the window, its requests have slots there, and its answers were
+-- read in them.
 pub record IsDriver (window : WindowValue) (driver : Driver) : Type 0 where
   pub unit : window.unit ≡ driver.unit
   pub pages : MIN_PAGES ≤ length window.pages
   pub rows : FitRows (length window.pages) driver.client
+  pub slots : HoldsSlots driver.client
   pub answers : AreResponsesRead (fronts_of (strokes_at window.pages)) driver.answers.items
 
 -- a copy by this server unit is lawful, between its own window and its client's
@@ -61,7 +65,8 @@ GoesOn before after old new = MatchOption old (new ≡ None)
 -- What a client's part of a turn leaves of its pair: the server unit and its window are as before, nothing was taken from its
 -- queue, which is in the same session, nothing was put into the client's own queue, the client's window has no stroke and no
 -- value less, and none more that another unit laid; what the client put into the server unit's queue stands behind what was there, and
--- tells of what was freed; and a queue in place of a client's is registered as before.
+-- tells of what was freed; the client is logged in only where something was put into its queue, if it was so; and a queue in place of a
+-- client's is registered as before.
 pub record Drives (old new : Pair) : Type 0 where
   pub server : new.server ≡ old.server
   pub own : new.own ≡ old.own
@@ -79,6 +84,7 @@ pub record Drives (old new : Pair) : Type 0 where
   pub server_session : (side_of new.link true).queue.session ≡ (side_of old.link true).queue.session
   pub server_taken : (side_of new.link true).queue.taken ≡ (side_of old.link true).queue.taken
   pub puts : Announces (end_of [] old.link false) (end_of [] new.link false)
+  pub reached : IfReached old.driver (side_of old.link false).queue.sent → IfReached new.driver (side_of new.link false).queue.sent
   pub alone : IfNone old.driver ((side_of new.link false).registered ≡ (side_of old.link false).registered)
 
 -- each of the pairs was left so

@@ -48,14 +48,14 @@ bytes_told seat present (ended ∷ more) =
     frame_by present ended.verb ended.outcome ++ bytes_told seat (mac_or (mac_given seat ended.verb ended.outcome) present) more
 
 -- a step of a line that ended with a frame sent the line's frame, and no other step sent any
-abbrev pub StepSends : UnitId → Verb → (old new : LanValue) → Step → Type 0
-StepSends unit verb old new (steps.Ends (outcomes.Frame code number)) = LineSends unit verb old new
-StepSends unit verb old new step = bytes_sent new unit ≡ bytes_sent old unit
+abbrev pub StepSendsBytes : UnitId → Verb → (old new : LanValue) → Step → Type 0
+StepSendsBytes unit verb old new (steps.Ends (outcomes.Frame code number)) = LineSends unit verb old new
+StepSendsBytes unit verb old new step = bytes_sent new unit ≡ bytes_sent old unit
 
 -- What a step of a line makes of a unit whose entries name their own pages.
 pub record StepBytes (unit : UnitId) (verb : Verb) (old new : LanValue) (step : Step) : Type 0 where
   pub names : puts_other verb ≡ false → NamesOwn old unit → NamesOwn new unit
-  pub sends : NamesOwn old unit → StepSends unit verb old new step
+  pub sends : NamesOwn old unit → StepSendsBytes unit verb old new step
   pub addresses : NamesOwn old unit → KeepsAddresses unit old new
 
 -- While a run goes on, the entries name their own pages, an open port has the present address, the frames so far are those of the lines, and

@@ -1,6 +1,7 @@
--- The addresses that a LAN unit has from the plan and from its lines, and the frames that are offered to it.
-use Rattle.std.specs.Prelude.{◌≡◌, ◌⊎◌, ◌≤◌, ◌==◌, ℕ, false, List, Option, Some, None, length, slice_index, if◌then◌else◌}
+-- The addresses that a LAN unit has from the plan and from its lines, the frames that are offered to it, and what raw calls make of it.
+use Rattle.std.specs.Prelude.{◌≡◌, ◌⊎◌, ◌≤◌, ◌==◌, ℕ, false, List, Option, Some, None, length, slice_index, ⊤, if◌then◌else◌}
 use Rattle.std.specs.List.{Contains, slice_get}
+use Rattle.vio_num.specs.Words.{Begins}
 use Rattle.vio_num.specs.declared.hypervisor.Hrc.TheVariants.{Success}
 use Rattle.vio_num.specs.declared.names.Mac.{Mac}
 use Rattle.vio_num.specs.declared.names.UnitId.{UnitId}
@@ -19,8 +20,11 @@ use Rattle.vio_trace.specs.declared.outcome.Outcome.{Outcome}
 use Rattle.vio_trace.specs.declared.outcome.Outcome.TheVariants as outcomes
 use Rattle.vio_trace.specs.declared.rows.LogRow.{LogRow}
 use Rattle.lan_switch.specs.Switch.{same_unit}
+use Rattle.lan_script.specs.Buffers.{posted_at}
 use Rattle.lan_script.specs.CalledMac.{low_mac}
+use Rattle.lan_script.specs.Entries.{ValuesGrow}
 use Rattle.lan_script.specs.OwnMac.{IsForGroup, MovesMac, SetsMac, changed_to, mac_at, mac_given}
+use Rattle.lan_script.specs.PortCounts.{counts_at}
 use Rattle.lan_script.specs.Replayed.{replay_at}
 use Rattle.lan_script.specs.Seats.{seat_at}
 use Rattle.lan_script.specs.Targets.{offers_to}
@@ -70,19 +74,31 @@ pub record KeepsMac (lan : LanValue) (unit : UnitId) (seat : PortSeat) (lines : 
   pub mac : (mac : Mac) → mac_at lan unit ≡ Some mac → HasMac unit seat lines logs mac
   pub fit : OffersAreFor unit seat lines logs (sent_at lan)
 
--- What a raw call made of a port of its partition: its address may be this one, which the call gave.
+-- What a raw call made of a port of its partition: its address may be this one, which the call gave. It has the frames, the posts, and the
+-- values of each entry that it had, in their places, and others behind them, if any, and as many frames at least were taken from its receive queue.
 pub record CallsPort (given : Option Mac) (unit : UnitId) (old new : LanValue) : Type 0 where
   pub seats : new.seats ≡ old.seats
   pub since : OffersSince old new unit
   pub moves : MovesMac given (replay_at old unit) (replay_at new unit)
+  pub frames : Begins (sent_at old unit) (sent_at new unit)
+  pub posted : Begins (posted_at old unit) (posted_at new unit)
+  pub taken : (counts_at old unit).taken ≤ (counts_at new unit).taken
+  pub values : ValuesGrow unit old new
 
 -- what a call at one unit of a partition made of each port of it
 abbrev pub CallsPorts : (partition unit : ℕ) → (given : Option Mac) → (old new : LanValue) → Type 0
 CallsPorts partition unit given old new = (u : ℕ) → CallsPort (if unit == u then given else None) (unit_of partition u) old new
 
--- what the end of a line that makes a raw call made of them
+-- the record of a raw call says a code or a value
+abbrev pub IsOfCall : Outcome → Type 0
+IsOfCall (outcomes.Code code) = ⊤
+IsOfCall (outcomes.Value value) = ⊤
+IsOfCall _ = ⊥
+
+-- what the end of a line that makes a raw call says, and made of them
 abbrev pub EndsPorts : (partition : ℕ) → Verb → (old new : LanValue) → Step → Type 0
-EndsPorts partition verb old new (steps.Ends outcome) = (u : ℕ) → CallsPort (mac_by_call (unit_of partition u) verb outcome) (unit_of partition u) old new
+EndsPorts partition verb old new (steps.Ends outcome) =
+    IsOfCall outcome × ((u : ℕ) → CallsPort (mac_by_call (unit_of partition u) verb outcome) (unit_of partition u) old new)
 EndsPorts partition verb old new (steps.Waits did) = ⊥
 
 -- the address that a step of a line gives

@@ -1,6 +1,6 @@
 -- What the records of a LAN unit's lines say of its port: the frames that it sent, the buffers that it posted, and the frames
 -- that it took from its receive queue.
-use Rattle.std.specs.Prelude.{◌≡◌, ℕ, ◌+◌, ◌≤◌, ◌==◌, false, All, List, [], ◌∷◌, ◌++◌, Option, Some, None, filter, length, map, slice_get, take, if◌then◌else◌}
+use Rattle.std.specs.Prelude.{◌≡◌, ℕ, ◌+◌, ◌*◌, ◌≤◌, ◌==◌, false, All, List, [], ◌∷◌, ◌++◌, Option, Some, None, filter, length, map, slice_get, take, if◌then◌else◌}
 use Rattle.vio_num.specs.declared.hypervisor.Hrc.{Hrc}
 use Rattle.vio_num.specs.declared.names.UnitId.{UnitId}
 use Rattle.boot_text.specs.declared.plan.Line.{Line}
@@ -12,6 +12,7 @@ use Rattle.vio_trace.specs.declared.outcome.Outcome.TheVariants as outcomes
 use Rattle.vio_trace.specs.declared.rows.Trace.{Trace}
 use Rattle.lan_script.specs.Buffers.{posted_at}
 use Rattle.lan_script.specs.Correlators.{CarriesAddress}
+use Rattle.lan_script.specs.Entries.{values_at}
 use Rattle.lan_script.specs.Invariant.{sent_by}
 use Rattle.lan_script.specs.PortCounts.{PortCounts, counts, counts_at, counts_by, counts_told, is_frame}
 use Rattle.lan_script.specs.PortReplay.{IsOn, PortReplay, closed_replay}
@@ -23,19 +24,20 @@ use Rattle.vcpu_run.specs.declared.script.Progress.{Progress}
 use Rattle.vcpu_run.specs.declared.script.Progress.TheVariants as progress
 use Rattle.vcpu_run.specs.declared.script.Script.{Script}
 use Rattle.vcpu_run.specs.declared.unit_seat.Seat.TheVariants as sits
+use Rattle.vcpu_run.specs.Among.{AreAmong}
 use Rattle.vcpu_run.specs.Credited.{Ended, ended_by}
 use Rattle.vcpu_run.specs.Ports.{IsPortOf, ports_of, unit_of}
 use Rattle.vcpu_run.specs.PortCalls.{TellsEntries}
 use Rattle.vcpu_run.specs.PortBytes.{KeepsBytes, NamesOwnPages, bytes_told}
 use Rattle.vcpu_run.specs.PortMacs.{KeepsMac, OffersAreFor}
 use Rattle.vcpu_run.specs.PortOffers.{EndsFrame, FrameGoes, OffersFit, TellsFit, TellsOffers}
-use Rattle.vcpu_run.specs.PortPosts.{AreWithin, IsUnder, buffers_of, buffers_under}
+use Rattle.vcpu_run.specs.PortPosts.{AreInForm, AreRanged, IsUnder, buffers_of, buffers_under}
 use Rattle.vcpu_run.specs.PortRegions.{AreInTurn, KeepsLogged, KeepsTold, RegionsAreTold, StrokesAreLogged}
 use Rattle.vcpu_run.specs.PortReplays.{AreReplayed, IsFirstOf, IsPlainPort, KeepsReplay}
 use Rattle.vcpu_run.specs.Settled.{script_of}
-use Rattle.vcpu_run.specs.Shown.{records_of}
+use Rattle.vcpu_run.specs.Shown.{records_of, values_shown}
 use Rattle.vcpu_run.specs.Suited.{is_call}
-use Rattle.vcpu_run.specs.ValuesPut.{AreValuesTold, KeepsPuts}
+use Rattle.vcpu_run.specs.ValuesPut.{AreValuesTold, KeepsPuts, values_told}
 
 -- a frame, by its code and its number
 pub record FrameTold : Type 0 where
@@ -79,6 +81,24 @@ abbrev pub WordsAreTold : List Partition → Trace → Type 0
 WordsAreTold partitions trace = (unit : UnitId) → IsPortOf (ports_of partitions) unit → HasNoCall (script_of partitions unit.partition)
     → LinesTell (ended_by unit.unit (script_of partitions unit.partition) (records_of trace unit.partition)) trace unit
 
+-- The same whatever raw calls the unit's partition makes: each frame of which a line tells is among those of the port, with its code and its
+-- number, each buffer among those that it posted, and each value that a line put behind the first of its entry, in their order; and its lines
+-- tell of no more frames taken than were.
+pub record LinesAreAmong (own : List Ended) (trace : Trace) (unit : UnitId) : Type 0 where
+  pub frames : AreAmong (frames_told own) (map frame_told (filter (λ row. same_unit row.unit unit) trace.frames))
+  pub posts : AreAmong (buffers_of own) (map (λ row. row.descriptor) (filter (λ row. same_unit row.unit unit) trace.posts))
+  pub values : (e : ℕ) → AreAmong ((4096 * e + 3) ∷ values_told e own) (values_shown trace unit e)
+  pub taken : taken_told own ≤ length (filter (λ row. is_frame row.high) (filter (λ row. same_unit row.unit unit) trace.harvests))
+
+abbrev pub WordsAreAmong : List Partition → Trace → Type 0
+WordsAreAmong partitions trace = (unit : UnitId) → IsPortOf (ports_of partitions) unit
+    → LinesAreAmong (ended_by unit.unit (script_of partitions unit.partition) (records_of trace unit.partition)) trace unit
+
+-- each `send` line of a port ends with `range` exactly where its frame does not lie in the region
+abbrev pub SendsAreRanged : List Partition → Trace → Type 0
+SendsAreRanged partitions trace = (unit : UnitId) (seat : PortSeat) → seat_at (ports_of partitions) unit ≡ Some seat
+    → AreRanged seat (ended_by unit.unit (script_of partitions unit.partition) (records_of trace unit.partition))
+
 -- how many sessions a trace shows of a port
 abbrev pub sessions_shown : Trace → UnitId → ℕ
 sessions_shown trace unit = length (filter (λ row. same_unit row.unit unit) trace.ports)
@@ -120,10 +140,10 @@ BuffersAreTold partitions trace = (unit : UnitId) → IsPortOf (ports_of partiti
     → buffers_of (ended_by unit.unit (script_of partitions unit.partition) (records_of trace unit.partition))
     ≡ map (λ row. row.descriptor) (filter (λ row. same_unit row.unit unit) trace.posts)
 
--- no line of a port took more frames than it says
-abbrev pub TakesAreWithin : List Partition → Trace → Type 0
-TakesAreWithin partitions trace = (unit : UnitId) → IsPortOf (ports_of partitions) unit
-    → AreWithin (ended_by unit.unit (script_of partitions unit.partition) (records_of trace unit.partition))
+-- each line of a port ends in its form, and none took more frames than it says
+abbrev pub LinesAreInForm : List Partition → Trace → Type 0
+LinesAreInForm partitions trace = (unit : UnitId) → IsPortOf (ports_of partitions) unit
+    → AreInForm (ended_by unit.unit (script_of partitions unit.partition) (records_of trace unit.partition))
 
 -- a port has offers only of frames to groups and to addresses that it has from the plan or a line, raw calls of its partition among these
 abbrev pub OffersHaveAddress : List Partition → Trace → Type 0
@@ -153,8 +173,10 @@ ValuesAreTold partitions trace = (unit : UnitId) → IsPortOf (ports_of partitio
 -- What the records of a plan's ports tell.
 pub record PortsAreTold (partitions : List Partition) (trace : Trace) : Type 0 where
   pub words : WordsAreTold partitions trace
+  pub among : WordsAreAmong partitions trace
+  pub ranges : SendsAreRanged partitions trace
   pub buffers : BuffersAreTold partitions trace
-  pub takes : TakesAreWithin partitions trace
+  pub forms : LinesAreInForm partitions trace
   pub values : ValuesAreTold partitions trace
   pub regions : RegionsAreTold partitions trace
   pub logged : StrokesAreLogged partitions trace
@@ -201,6 +223,22 @@ abbrev pub TellsBuffers : LanValue → Script → Type 0
 TellsBuffers lan script = HasNoCall script.lines.now → (unit : ℕ) → slice_get script.seats.items unit ≡ Some sits.Port
     → buffers_of (ended_by unit script.lines.now script.logs.items) ++ buffers_now unit script ≡ posted_at lan (unit_of script.partition unit)
 
+-- What the lines of a unit tell, with what the current one did so far, is among what its port did.
+pub record KeepsAmong (own : List Ended) (buffers : List ℕ) (now : PortCounts) (lan : LanValue) (unit : UnitId) : Type 0 where
+  pub frames : AreAmong (frames_told own) (frames_at lan unit)
+  pub posts : AreAmong (buffers_of own ++ buffers) (posted_at lan unit)
+  pub values : (e : ℕ) → AreAmong ((4096 * e + 3) ∷ values_told e own) (values_at lan unit e)
+  pub taken : taken_told own + now.taken ≤ (counts_at lan unit).taken
+
+abbrev pub TellsAmong : LanValue → Script → Type 0
+TellsAmong lan script = (unit : ℕ) → slice_get script.seats.items unit ≡ Some sits.Port
+    → KeepsAmong (ended_by unit script.lines.now script.logs.items) (buffers_now unit script) (counts_now unit script) lan (unit_of script.partition unit)
+
+-- the `send` lines of each port of a script say `range` where they are to
+abbrev pub TellsRanges : LanValue → Script → Type 0
+TellsRanges lan script = (unit : ℕ) → slice_get script.seats.items unit ≡ Some sits.Port → (seat : PortSeat)
+    → seat_at lan.seats (unit_of script.partition unit) ≡ Some seat → AreRanged seat (ended_by unit script.lines.now script.logs.items)
+
 -- the values of the entries of each port of a script are those that its lines say they put
 abbrev pub TellsValues : LanValue → Script → Type 0
 TellsValues lan script = HasNoCall script.lines.now → (unit : ℕ) → slice_get script.seats.items unit ≡ Some sits.Port
@@ -216,9 +254,9 @@ abbrev pub TellsLogged : LanValue → Script → Type 0
 TellsLogged lan script = (unit : ℕ) → slice_get script.seats.items unit ≡ Some sits.Port
     → KeepsLogged script.lines.now script.logs.items script.at lan (unit_of script.partition unit)
 
--- no line of a port of a script took more than it says
+-- each line of a port of a script ends in its form, and took no more than it says
 pub record TakesOwn (script : Script) (unit : ℕ) : Type 0 where
-  pub ended : AreWithin (ended_by unit script.lines.now script.logs.items)
+  pub ended : AreInForm (ended_by unit script.lines.now script.logs.items)
   pub now : IsUnder unit (done_in script.progress) (slice_get script.lines.now script.at)
 
 abbrev pub TellsTakes : Script → Type 0
@@ -249,6 +287,8 @@ TellsReplay lan script = (unit : ℕ) → IsPlainPort unit script.lines.now → 
 -- What the lines of a script tell of its ports.
 pub record TellsPorts (lan : LanValue) (script : Script) : Type 0 where
   pub words : TellsWords lan script
+  pub among : TellsAmong lan script
+  pub ranges : TellsRanges lan script
   pub buffers : TellsBuffers lan script
   pub takes : TellsTakes script
   pub values : TellsValues lan script

@@ -22,6 +22,7 @@ use Rattle.vcpu_run.specs.declared.partition_units.PartitionUnits.{PartitionUnit
 use Rattle.vcpu_run.specs.declared.unit_seat.Seat.{Seat}
 use Rattle.vcpu_run.specs.declared.unit_seat.Seat.TheVariants as sits
 use Rattle.vcpu_run.specs.Agreed.{SameDrivers, SameElse}
+pub use Rattle.vcpu_run.specs.CallsAnswered.{pair_of}
 use Rattle.vcpu_run.specs.CallsAnswered.{IsReturned, UnitSeen, port_seen, unit_seen}
 use Rattle.vcpu_run.specs.Freed.{FreesNoneIf}
 use Rattle.vcpu_run.specs.Freeing.{NoneSits}
@@ -78,11 +79,6 @@ pub record CallsUnits (old new : PartitionUnits) : Type 0 where
 pub record MakesCall (old new : PartitionUnits) (answer : Result Returned NoMemory) : Type 0 where
   pub units : CallsUnits old new
   pub apart : OnOk answer (IsApart old.partition old.lan.now new.lan.now)
-
--- the pair at which a client sits
-abbrev pub pair_of : List Pair → Option Seat → Option Pair
-pair_of pairs (Some (sits.Client k)) = slice_get pairs k
-pair_of pairs _ = None
 
 -- the unit of this number where it sat, with its pair as a call left it
 abbrev pub seen_after : (old new : PartitionUnits) → (unit : ℕ) → UnitSeen

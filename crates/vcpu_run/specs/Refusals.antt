@@ -27,6 +27,7 @@ use Rattle.vcpu_run.specs.PortWords.{HasNoCall}
 use Rattle.vcpu_run.specs.Replay.{Range, asks, lie_within, ranges_of}
 use Rattle.vcpu_run.specs.SentOrder.{AreSentIn}
 use Rattle.vcpu_run.specs.Settled.{script_of}
+use Rattle.vcpu_run.specs.ShutShown.{AreShutTold}
 use Rattle.vcpu_run.specs.ValuesPut.{AreValuesTold}
 use Rattle.vcpu_run.specs.Shown.{pages_at, records_of, stroke_value, strokes_on, values_shown}
 
@@ -138,6 +139,7 @@ pub record IsClientTold (partitions : List Partition) (trace : Trace) (client se
   pub shown : LinesShow (seen_in trace client server) client client.unit (script_of partitions client.partition) (records_of trace client.partition)
   pub order : AreSentIn (seen_in trace client server) client client.unit (script_of partitions client.partition) (records_of trace client.partition) (sent_to trace server)
   pub drops : AreDropsTold trace client server (script_of partitions client.partition) (records_of trace client.partition)
+  pub shut : AreShutTold trace client server (script_of partitions client.partition) (records_of trace client.partition)
   pub put : AreValuesTold trace client (ended_by client.unit (script_of partitions client.partition) (records_of trace client.partition))
   pub few : EventsAreFew trace server (script_of partitions client.partition) (ended_by client.unit (script_of partitions client.partition) (records_of trace client.partition))
   pub takes : AreAnswersTaken trace client (ended_by client.unit (script_of partitions client.partition) (records_of trace client.partition))

@@ -22,6 +22,7 @@ use Rattle.vcpu_run.specs.FewEvents.{PairFew}
 use Rattle.vcpu_run.specs.PortWords.{HasNoCall}
 use Rattle.vcpu_run.specs.Refusals.{HasCausesTold}
 use Rattle.vcpu_run.specs.Scripts.{are_servers}
+use Rattle.vcpu_run.specs.ShutShown.{HadEnd, LinesShut, StaysServed}
 use Rattle.vcpu_run.specs.SentOrder.{AreSentIn, entries_put}
 use Rattle.vcpu_run.specs.TakenScripts.{PairAgrees, PairTaken}
 use Rattle.vcpu_run.specs.Takings.{IsTakenUpTo}
@@ -49,12 +50,13 @@ PairIsTold own p pair = IfSome pair.driver (λ driver. IsTold (length pair.windo
 abbrev pub AtSeats : List Seat → List Pair → (P : ℕ → Pair → Type 0) → Type 0
 AtSeats seats pairs P = (unit k : ℕ) (pair : Pair) → slice_get seats unit ≡ Some (sits.Client k) → slice_get pairs k ≡ Some pair → P unit pair
 
--- What the lines of a unit that ended show, at its pair, in which order its requests were put, and that those which were dropped have their
--- records.
+-- What the lines of a unit that ended show, at its pair, in which order its requests were put, that those which were dropped have their
+-- records, and that a session of its server unit's queue is over where one met a closed queue.
 pub record ShowsLines (unit : ℕ) (lines : List Line) (rows : List LogRow) (pair : Pair) : Type 0 where
   pub show : LinesShow (seen_at pair) pair.window.unit unit lines rows
   pub order : AreSentIn (seen_at pair) pair.window.unit unit lines rows (entries_put pair)
   pub drops : LinesFull (IsFullAt pair) unit lines rows
+  pub shut : LinesShut (HadEnd pair.link) unit lines rows
 
 abbrev pub PairShown : Script → (unit : ℕ) → Pair → Type 0
 PairShown script unit pair = ShowsLines unit script.lines.now script.logs.items pair
@@ -85,9 +87,9 @@ abbrev pub IsResetOut : List Pair → Script → Type 0
 IsResetOut pairs script = (line : Line) (k : ℕ) (pair : Pair) → slice_get script.lines.now script.at ≡ Some line → is_reset line.verb ≡ true
     → slice_get script.seats.items line.unit ≡ Some (sits.Client k) → slice_get pairs k ≡ Some pair → IsLoggedOut pair
 
--- more may stand behind what the client put into its server unit's queue, and each record of a drop is there still
+-- more may stand behind what the client put into its server unit's queue, each record of a drop is there still, and no session is undone
 abbrev pub PutsMore : (old new : Pair) → Type 0
-PutsMore old new = (rows : List PipeRow) × ((side_of new.link true).queue.sent ≡ (side_of old.link true).queue.sent ++ rows) × KeepsFull old new
+PutsMore old new = (rows : List PipeRow) × ((side_of new.link true).queue.sent ≡ (side_of old.link true).queue.sent ++ rows) × KeepsFull old new × StaysServed old.link new.link
 
 -- The client of a pair, its window's unit and length, whether its queue is registered and what it took are as before, no entry of its window
 -- has other values, what there was is there, and it laid no stroke in its region.

@@ -6,7 +6,6 @@ use Rattle.boot_text.specs.declared.plan.Line.{Line}
 use Rattle.vio_trace.specs.declared.rows.LogRow.{LogRow}
 use Rattle.vcpu_run.specs.declared.pair.Pair.{Pair}
 use Rattle.vcpu_run.specs.declared.script.Script.{Script}
-use Rattle.vcpu_run.specs.CallsSaid.{CallsSaid, seen_from}
 use Rattle.vcpu_run.specs.Lines.{numbers_to_fail}
 use Rattle.vcpu_run.specs.Suited.{IsLineAt}
 use Rattle.vcpu_run.specs.declared.unit_seat.Seat.{Seat}
@@ -34,14 +33,13 @@ pub record AreLogged (partition at : ℕ) (lines : List Line) (logs : List LogRo
   pub reached : at < length lines → length logs ≡ at
   pub whole : numbers_to_fail lines ≡ map (λ row. row.line) logs ++ numbers_to_fail (drop at lines)
 
--- The script of a partition, whose records say of its raw calls what they may.
+-- The script of a partition.
 pub record IsScript (pairs : List Pair) (script : Script) : Type 0 where
   pub seats : AreSeats script.partition script.seats.items pairs
   pub lines : All (IsLineAt script.seats.items) script.lines.now
   pub in_order : AllPairs (λ a b. a.number < b.number) script.lines.now
   pub at : script.at ≤ length script.lines.now
   pub logs : AreLogged script.partition script.at script.lines.now script.logs.items
-  pub called : CallsSaid (seen_from script.partition script.seats.items pairs) script.lines.now script.logs.items
 
 -- Nothing changed but how far the script came, and its rows.
 pub record OnlyRuns (old new : Script) : Type 0 where

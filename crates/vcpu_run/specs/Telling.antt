@@ -81,13 +81,13 @@ abbrev pub at_rest : Seated → Seated
 at_rest a = record a { progress = progress.Fresh }
 
 -- a step of a line keeps this
-abbrev pub KeepsTold : (pages : ℕ) → Verb → Seated → Seated → Step → Type 0
-KeepsTold pages verb a b (steps.Ends outcome) =
+abbrev pub KeepsRecordsTold : (pages : ℕ) → Verb → Seated → Seated → Step → Type 0
+KeepsRecordsTold pages verb a b (steps.Ends outcome) =
     (own : List Ended) → IsToldAt pages own a → IsToldAt pages (own ++ record { verb = verb; outcome = outcome } ∷ []) (at_rest b)
-KeepsTold pages verb a b (steps.Waits did) = IsOf verb b.progress × ((own : List Ended) → IsToldAt pages own a → IsToldAt pages own b)
+KeepsRecordsTold pages verb a b (steps.Waits did) = IsOf verb b.progress × ((own : List Ended) → IsToldAt pages own a → IsToldAt pages own b)
 
 abbrev pub StepsTold : (pages : ℕ) → Verb → Seated → Seated → Result Step NoMemory → Type 0
-StepsTold pages verb a b (Ok step) = IsOf verb a.progress → KeepsTold pages verb a b step
+StepsTold pages verb a b (Ok step) = IsOf verb a.progress → KeepsRecordsTold pages verb a b step
 StepsTold pages verb a b (Err memory) = ⊤
 
 -- granted and outstanding are as before, and no tag is used again

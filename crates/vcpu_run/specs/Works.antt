@@ -15,7 +15,9 @@ use Rattle.unit_region.specs.Marks.{LaysNoStroke, LaysUnder}
 use Rattle.vcpu_run.specs.AnswersSeen.{AreResponsesRead, fronts_of}
 use Rattle.vcpu_run.specs.EventsPut.{MakesNoEvent}
 use Rattle.vcpu_run.specs.Freed.{FreesNone}
+use Rattle.vcpu_run.specs.ClientSlots.{HoldsSlots}
 use Rattle.vcpu_run.specs.Pairs.{IsDriver}
+use Rattle.vcpu_run.specs.Reached.{Reaches}
 use Rattle.vcpu_run.specs.Announces.{Announces}
 use Rattle.vcpu_run.specs.Suited.{is_call}
 use Rattle.vcpu_run.specs.declared.unit_seat.Seat.{Seat}
@@ -28,7 +30,7 @@ LaysBy is_shared (Some mark) old new = LaysUnder is_shared mark old new
 
 -- The end is where it was, and on a link of its own at the same session of the partner; its queue was not freed, and no event made, unless
 -- that may be, and the partner was told of what was; the window was kept, and the driver is that of the same unit, whose data still lie in the region, and
--- whose answers were read there. Each stroke of its own that the window has more bears this mark; where none is given it has no stroke more.
+-- whose answers were read in its slots; it is logged in only where something was put into its queue. Each stroke of its own that the window has more bears this mark; where none is given it has no stroke more.
 pub record Works (may_free end_shared is_shared : Bool) (mark : Option ℕ) (end end' : EndState) (own own' : PortState) (driver driver' : Driver) : Type 0 where
   pub place : end'.place ≡ end.place
   pub session : end_shared ≡ false → end'.counts.partner_session ≡ end.counts.partner_session
@@ -39,7 +41,10 @@ pub record Works (may_free end_shared is_shared : Bool) (mark : Option ℕ) (end
   pub lays : LaysBy is_shared mark own own'
   pub unit : driver'.unit ≡ driver.unit
   pub rows : FitRows own.place.size driver.client → FitRows own.place.size driver'.client
-  pub answers : AreResponsesRead (fronts_of own.strokes) driver.answers.items → AreResponsesRead (fronts_of own'.strokes) driver'.answers.items
+  pub slots : HoldsSlots driver.client → HoldsSlots driver'.client
+  pub answers : HoldsSlots driver.client → AreResponsesRead (fronts_of own.strokes) driver.answers.items
+      → AreResponsesRead (fronts_of own'.strokes) driver'.answers.items
+  pub reached : end_shared ≡ false → Reaches driver.client driver'.client end end'
 
 -- each pair at which a client sits has a driver, which is that of its window
 abbrev pub HaveClients : List Seat → List Pair → Type 0

@@ -71,7 +71,8 @@ pub(crate) fn gather(
         All IsOver scripts.entry.items → RecordsAreOfLines partitions trace) }
     ensures called { IfOk result (λ trace. (partitions : List Partition) →
         IsOfPlan partitions pairs.items scripts.entry.items lan.seats →
-        PortsEnd lan scripts.entry.items → CallsAreSaid partitions trace) }
+        PortsEnd lan scripts.entry.items → AreCredited pairs.items scripts.entry.items →
+        CallsAreSaid partitions trace) }
     ensures credits { IfOk result (λ trace. (partitions : List Partition) →
         IsOfPlan partitions pairs.items scripts.entry.items lan.seats →
         AreCredited pairs.items scripts.entry.items → CreditsAreKept partitions trace) }
@@ -82,6 +83,7 @@ pub(crate) fn gather(
     ensures refusals { IfOk result (λ trace. (partitions : List Partition) →
         IsOfPlan partitions pairs.items scripts.entry.items lan.seats →
         All IsOver scripts.entry.items → AreTold pairs.items scripts.entry.items →
+        AreAtRest copies.items grants.items history.items pairs.items scripts.entry.items →
         RefusalsAreTold partitions trace) }
     ensures answers { IfOk result (λ trace. (partitions : List Partition) →
         IsOfPlan partitions pairs.items scripts.entry.items lan.seats →

@@ -9,11 +9,13 @@ ghost use Rattle.vscsi_client.specs.Units.{FitsOp};
 ghost use Rattle.boot_text.specs.declared.verb.Verb.{Verb as VerbValue};
 ghost use Rattle.boot_text.specs.declared.verb.Verb.TheVariants as verbs;
 ghost use Rattle.vcpu_run.specs.ClientMoments.{RegionStepped};
+ghost use Rattle.vcpu_run.specs.ClientSlots.{HoldsSlots};
 ghost use Rattle.vcpu_run.specs.Credited.{StepsAgreed, taken_in, uses_credit};
 ghost use Rattle.unit_region.specs.Steps.{IsPlain};
 ghost use Rattle.vcpu_run.specs.DataKept.{StepSends};
 ghost use Rattle.vcpu_run.specs.DataRead.{StepReads};
 ghost use Rattle.vcpu_run.specs.DropsShown.{IsFullBy, StepFull};
+ghost use Rattle.vcpu_run.specs.ShutShown.{MeetsShut, StepShut};
 ghost use Rattle.vcpu_run.specs.EventsHeard.{StepHears};
 ghost use Rattle.vcpu_run.specs.EventsPut.{FreesOnce, StepMakes};
 ghost use Rattle.vcpu_run.specs.Freeing.{is_reset};
@@ -107,7 +109,8 @@ impl Driver {
             result }
         ensures out { (self.old.client.granted ≡ None)
             ⊎ ((C.state crq.old.end).registered ≡ false) → LeavesOut self.new.client result }
-        ensures shows { (unit : UnitValue) (mark : ℕ) (verb : VerbValue) →
+        ensures shows { HoldsSlots self.old.client →
+            (unit : UnitValue) (mark : ℕ) (verb : VerbValue) →
             requests verb ≡ false → written_by verb ≡ None → read_by verb ≡ None →
             further_of verb ≡ Some LogsIn → StepShows
             (seen_since C.is_shared (O.state own.new)
@@ -117,6 +120,7 @@ impl Driver {
             (C.state crq.new.end).registered result }
         ensures takes { StepsTaken verbs.Login 0 0 self.old self.new result }
         ensures retakes { StepsTaken verbs.Reset 0 0 self.old self.new result }
+        ensures full { StepFull (IsFullBy C.is_shared (C.state crq.new.end)) result }
         ensures gives { OnOk result (Gives self.old self.new
             (C.state crq.old.end) (C.state crq.new.end)) }
         ensures hears { StepHears result self.old.client self.new.client
@@ -149,7 +153,8 @@ impl Driver {
             (seated self.old.client progress.old (C.state crq.old.end).registered)
             (seated self.new.client progress.new (C.state crq.new.end).registered)
             result }
-        ensures shows { (unit : UnitValue) (mark : ℕ) (verb : VerbValue) →
+        ensures shows { HoldsSlots self.old.client →
+            (unit : UnitValue) (mark : ℕ) (verb : VerbValue) →
             requests verb ≡ false → written_by verb ≡ None → read_by verb ≡ None →
             further_of verb ≡ Some LogsIn → StepShows
             (seen_since C.is_shared (O.state own.new)
@@ -165,6 +170,7 @@ impl Driver {
             self.old.client self.new.client result }
         ensures takes { StepsTaken verbs.Reset (taken_in progress.old) (taken_in progress.new)
             self.old self.new result }
+        ensures full { StepFull (IsFullBy C.is_shared (C.state crq.new.end)) result }
         ensures frees { FreesOnce progress.old progress.new
             (C.state crq.old.end) (C.state crq.new.end) }
         ensures gives { OnOk result (Gives self.old self.new
@@ -201,8 +207,10 @@ impl Driver {
         ensures plain { IsPlain result }
         ensures answers { self.new.answers ≡ self.old.answers }
         ensures takes { StepsTaken (verbs.Data tag) 0 0 self.old self.new result }
-        ensures reads { (shared : Bool) (end : EndState) → IfOk result (StepReads
-            (seen_by shared (O.state own.new) end) self.old.client (verbs.Data tag)) }
+        ensures full { (shared : Bool) (end : EndState) → StepFull (IsFullBy shared end) result }
+        ensures reads { O.is_shared ≡ false → (shared : Bool) (end : EndState) →
+            IfOk result (StepReads (seen_by shared (O.state own.new) end)
+            self.old.client (verbs.Data tag)) }
     {
         match self.client.data_of(own, tag) {
             Ok(bytes) => Ok(Step::Ends(Outcome::Data {
@@ -246,8 +254,10 @@ impl Driver {
             StepsTaken verb 0 0 self.old self.new result }
         ensures inward { (verb : VerbValue) → IsOpOf verb op.now →
             IfOk result (StepSends self.new.client.rows verb) }
-        ensures full { (verb : VerbValue) → IsOpOf verb op.now →
-            StepFull (IsFullBy C.is_shared (C.state crq.new.end)) verb result }
+        ensures full { StepFull (IsFullBy C.is_shared (C.state crq.new.end)) result }
+        ensures shut { (verb : VerbValue) → IsOpOf verb op.now →
+            StepShut (MeetsShut C.is_shared self.old.client
+            (C.state crq.old.end) (C.state crq.new.end)) verb result }
         ensures gives { OnOk result (Gives self.old self.new
             (C.state crq.old.end) (C.state crq.new.end)) }
         ensures hears { StepHears result self.old.client self.new.client
@@ -282,8 +292,9 @@ impl Driver {
         ensures credit { (verb : VerbValue) → uses_credit verb ≡ true →
             StepsAgreed verb 0 0 self.old.client self.new.client result }
         ensures takes { StepsTaken (verbs.Task function tag) 0 0 self.old self.new result }
-        ensures full { StepFull (IsFullBy C.is_shared (C.state crq.new.end))
-            (verbs.Task function tag) result }
+        ensures full { StepFull (IsFullBy C.is_shared (C.state crq.new.end)) result }
+        ensures shut { StepShut (MeetsShut C.is_shared self.old.client
+            (C.state crq.old.end) (C.state crq.new.end)) (verbs.Task function tag) result }
         ensures gives { OnOk result (Gives self.old self.new
             (C.state crq.old.end) (C.state crq.new.end)) }
         ensures hears { StepHears result self.old.client self.new.client
@@ -315,8 +326,9 @@ impl Driver {
         ensures credit { (verb : VerbValue) → uses_credit verb ≡ false →
             StepsAgreed verb 0 0 self.old.client self.new.client result }
         ensures takes { StepsTaken verbs.Logout 0 0 self.old self.new result }
-        ensures full { StepFull (IsFullBy C.is_shared (C.state crq.new.end))
-            verbs.Logout result }
+        ensures full { StepFull (IsFullBy C.is_shared (C.state crq.new.end)) result }
+        ensures shut { StepShut (MeetsShut C.is_shared self.old.client
+            (C.state crq.old.end) (C.state crq.new.end)) verbs.Logout result }
         ensures gives { OnOk result (Gives self.old self.new
             (C.state crq.old.end) (C.state crq.new.end)) }
         ensures hears { StepHears result self.old.client self.new.client
@@ -346,6 +358,7 @@ impl Driver {
             (taken_in progress.new) self.old.client self.new.client result }
         ensures takes { StepsTaken (verbs.Take count) (taken_in progress.old)
             (taken_in progress.new) self.old self.new result }
+        ensures full { StepFull (IsFullBy C.is_shared (C.state crq.new.end)) result }
         ensures gives { OnOk result (Gives self.old self.new
             (C.state crq.old.end) (C.state crq.new.end)) }
         ensures hears { StepHears result self.old.client self.new.client
@@ -368,6 +381,7 @@ impl Driver {
         requires verb { IsUnitVerb line.now.verb }
         requires pages { MIN_PAGES ≤ (O.state own.old).place.size }
         requires rows { FitRows (O.state own.old).place.size self.old.client }
+        requires slots { HoldsSlots self.old.client }
         ensures told { StepsTold (O.state own.old).place.size line.now.verb
             (seated self.old.client progress.old (C.state crq.old.end).registered)
             (seated self.new.client progress.new (C.state crq.new.end).registered)
@@ -390,12 +404,13 @@ impl Driver {
             (O.state own.old) (O.state own.new) result }
         ensures puts { IfOk result (λ step. StepPuts line.now.verb step
             (O.state own.old).values (O.state own.new).values) }
-        ensures reads { IfOk result (StepReads
+        ensures reads { O.is_shared ≡ false → IfOk result (StepReads
             (seen_by C.is_shared (O.state own.new) (C.state crq.new.end))
             self.old.client line.now.verb) }
         ensures inward { IfOk result (StepSends self.new.client.rows line.now.verb) }
-        ensures full { StepFull (IsFullBy C.is_shared (C.state crq.new.end))
-            line.now.verb result }
+        ensures full { StepFull (IsFullBy C.is_shared (C.state crq.new.end)) result }
+        ensures shut { StepShut (MeetsShut C.is_shared self.old.client
+            (C.state crq.old.end) (C.state crq.new.end)) line.now.verb result }
         ensures credit { StepsAgreed line.now.verb (taken_in progress.old)
             (taken_in progress.new) self.old.client self.new.client result }
         ensures takes { StepsTaken line.now.verb (taken_in progress.old)
@@ -425,6 +440,7 @@ impl Driver {
         requires verb { IsUnitVerb line.now.verb }
         requires pages { MIN_PAGES ≤ (O.state own.old).place.size }
         requires rows { FitRows (O.state own.old).place.size self.old.client }
+        requires slots { HoldsSlots self.old.client }
         ensures told { StepsTold (O.state own.old).place.size line.now.verb
             (seated self.old.client progress.old (C.state crq.old.end).registered)
             (seated self.new.client progress.new (C.state crq.new.end).registered)
@@ -447,12 +463,13 @@ impl Driver {
             (O.state own.old) (O.state own.new) result }
         ensures puts { IfOk result (λ step. StepPuts line.now.verb step
             (O.state own.old).values (O.state own.new).values) }
-        ensures reads { IfOk result (StepReads
+        ensures reads { O.is_shared ≡ false → IfOk result (StepReads
             (seen_by C.is_shared (O.state own.new) (C.state crq.new.end))
             self.old.client line.now.verb) }
         ensures inward { IfOk result (StepSends self.new.client.rows line.now.verb) }
-        ensures full { StepFull (IsFullBy C.is_shared (C.state crq.new.end))
-            line.now.verb result }
+        ensures full { StepFull (IsFullBy C.is_shared (C.state crq.new.end)) result }
+        ensures shut { StepShut (MeetsShut C.is_shared self.old.client
+            (C.state crq.old.end) (C.state crq.new.end)) line.now.verb result }
         ensures credit { StepsAgreed line.now.verb (taken_in progress.old)
             (taken_in progress.new) self.old.client self.new.client result }
         ensures takes { StepsTaken line.now.verb (taken_in progress.old)

@@ -7,7 +7,7 @@ ghost use Rattle.boot_text.specs.declared.plan.UnitPlan.TheVariants as kinds;
 ghost use Rattle.vcpu_run.specs.Agreed.{AreAllOut, IsLoggedOut};
 ghost use Rattle.vcpu_run.specs.Answered.{AreAnswered, IsAnswered};
 ghost use Rattle.vcpu_run.specs.Links.{AreClosed, IsClosed};
-ghost use Rattle.vcpu_run.specs.Received.{AreFresh, IsFresh};
+ghost use Rattle.vcpu_run.specs.Received.{AreNew, IsNew};
 ghost use Rattle.vcpu_run.specs.Machines.{ArePlanned, IsPlanned, home_of, seat_of};
 ghost use Rattle.vcpu_run.specs.Making.{AreMade, HasNoneIn, IsMade, IsSeatAt, IsSeatIn, IsSeatOf};
 ghost use Rattle.vcpu_run.specs.Pairs.{ArePairs, IsPair};
@@ -57,7 +57,7 @@ pub(crate) fn make_pairs(
     ensures out { IfOk result (λ pairs. AreAllOut pairs.items) }
     ensures answered { IfOk result (λ pairs. AreAnswered [] pairs.items) }
     ensures closed { IfOk result (λ pairs. AreClosed pairs.items) }
-    ensures fresh { IfOk result (λ pairs. AreFresh pairs.items) }
+    ensures fresh { IfOk result (λ pairs. AreNew pairs.items) }
 {
     let mut pairs = Vec::new(alloc);
     let Some(partition) = partitions.get(home) else {
@@ -99,7 +99,7 @@ fn make_pair(
     ensures out { IfOk result IsLoggedOut }
     ensures answered { IfOk result (IsAnswered []) }
     ensures closed { IfOk result IsClosed }
-    ensures fresh { IfOk result IsFresh }
+    ensures fresh { IfOk result IsNew }
 {
     let client = client_of(partitions, server);
     Pair::open(alloc, server, queue, client)

@@ -18,7 +18,8 @@ ghost use Rattle.vcpu_run.specs.Machines.{FitsSeat, HasSeat, SitsAt, Stays, serv
 ghost use Rattle.vcpu_run.specs.Named.{HasWindow};
 ghost use Rattle.vcpu_run.specs.OnDisk.{LastsOnDisk};
 ghost use Rattle.vcpu_run.specs.Pairs.{IsPair};
-ghost use Rattle.vcpu_run.specs.Received.{IsFresh, IsReceived};
+ghost use Rattle.vcpu_run.specs.Received.{IsNew, IsReceived};
+ghost use Rattle.vcpu_run.specs.ShutShown.{StaysServed};
 ghost use Rattle.vcpu_run.specs.ValuesPut.{SameValues};
 
 use crate::driver::Driver;
@@ -79,7 +80,7 @@ impl Pair {
         ensures out { IfOk result IsLoggedOut }
         ensures answered { IfOk result (IsAnswered []) }
         ensures closed { IfOk result IsClosed }
-        ensures fresh { IfOk result IsFresh }
+        ensures fresh { IfOk result IsNew }
     {
         match client {
             Some(seat) => Pair::with_client(alloc, server, queue, seat),
@@ -103,7 +104,7 @@ impl Pair {
         ensures out { IfOk result IsLoggedOut }
         ensures answered { IfOk result (IsAnswered []) }
         ensures closed { IfOk result IsClosed }
-        ensures fresh { IfOk result IsFresh }
+        ensures fresh { IfOk result IsNew }
     {
         Ok(Pair {
             server,
@@ -124,7 +125,7 @@ impl Pair {
         ensures client { IfOk result (λ pair. pair.driver ≡ None) }
         ensures answered { IfOk result (IsAnswered []) }
         ensures closed { IfOk result IsClosed }
-        ensures fresh { IfOk result IsFresh }
+        ensures fresh { IfOk result IsNew }
     {
         let absent = UnitId {
             partition: server.partition,
@@ -218,6 +219,7 @@ impl Pair {
         ensures sent { (side_of self.new.link true).queue.sent
             ≡ (side_of self.old.link true).queue.sent }
         ensures full { KeepsFull self.old self.new }
+        ensures served { StaysServed self.old.link self.new.link }
         ensures taken { (side_of self.new.link false).queue.taken
             ≡ (side_of self.old.link false).queue.taken }
         ensures kept { (side_of self.new.link false).kept ≡ (side_of self.old.link false).kept }

@@ -3,8 +3,7 @@ ghost use Rattle.std.specs.Prelude.{[], ◌≡◌, ◌<◌, ℕ, All, IfOk, IfSo
 ghost use Rattle.std.specs.List.{AllPairs};
 ghost use Rattle.vcpu_run.specs.declared.pair.Pair.{Pair as PairValue};
 ghost use Rattle.vcpu_run.specs.Agreed.{AreLoggedOut, IsCredited, IsEnded, SameElse};
-ghost use Rattle.vcpu_run.specs.CallsSaid.{IsSaidOf, seen_from};
-ghost use Rattle.vcpu_run.specs.ClientStrokes.{LogsStrokes};
+ghost use Rattle.vcpu_run.specs.ScriptLogs.{LogsLines};
 ghost use Rattle.vcpu_run.specs.Credited.{taken_in};
 ghost use Rattle.vcpu_run.specs.Lines.{IsOver, is_over, place_behind};
 ghost use Rattle.vcpu_run.specs.Holding.{LeavesResetOpen, IsResetOpen, KeepsQueues};
@@ -132,8 +131,8 @@ impl<'p> Script<'p> {
         ensures apart { OnOk result (IsApart self.old.partition lan.old lan.new) }
         ensures credited { OnOk result (IsCredited pairs.old self.old →
             IsCredited pairs.new self.new) }
-        ensures logged { OnOk result (LogsStrokes pairs.old self.old →
-            LogsStrokes pairs.new self.new) }
+        ensures logged { OnOk result (LogsLines pairs.old self.old →
+            LogsLines pairs.new self.new) }
         ensures said { OnOk result (HasNoCall self.old.lines.now →
             IsScriptTold pairs.old self.old → IsScriptTold pairs.new self.new) }
         ensures out { IfOk result (λ moved. moved ≡ Moved.Quiet → HasNoCall self.old.lines.now →
@@ -167,8 +166,8 @@ impl<'p> Script<'p> {
         ensures apart { OnOk result (IsApart self.old.partition lan.old lan.new) }
         ensures credited { OnOk result (IsCredited pairs.old self.old →
             IsCredited pairs.new self.new) }
-        ensures logged { OnOk result (LogsStrokes pairs.old self.old →
-            LogsStrokes pairs.new self.new) }
+        ensures logged { OnOk result (LogsLines pairs.old self.old →
+            LogsLines pairs.new self.new) }
         ensures said { OnOk result (HasNoCall self.old.lines.now →
             IsScriptTold pairs.old self.old → IsScriptTold pairs.new self.new) }
         ensures out { IfOk result (λ moved. moved ≡ Moved.Quiet → HasNoCall self.old.lines.now →
@@ -205,8 +204,8 @@ impl<'p> Script<'p> {
         ensures apart { OnOk result (IsApart self.old.partition lan.old lan.new) }
         ensures credited { OnOk result (IsCredited pairs.old self.old →
             IsCredited pairs.new self.new) }
-        ensures logged { OnOk result (LogsStrokes pairs.old self.old →
-            LogsStrokes pairs.new self.new) }
+        ensures logged { OnOk result (LogsLines pairs.old self.old →
+            LogsLines pairs.new self.new) }
         ensures said { OnOk result (HasNoCall self.old.lines.now →
             IsScriptTold pairs.old self.old → IsScriptTold pairs.new self.new) }
         ensures out { IfOk result (λ moved. moved ≡ Moved.Quiet → HasNoCall self.old.lines.now →
@@ -260,8 +259,8 @@ impl<'p> Script<'p> {
         ensures apart { OnOk result (IsApart self.old.partition lan.old lan.new) }
         ensures credited { OnOk result (IsCredited pairs.old self.old →
             IsCredited pairs.new self.new) }
-        ensures logged { OnOk result (LogsStrokes pairs.old self.old →
-            LogsStrokes pairs.new self.new) }
+        ensures logged { OnOk result (LogsLines pairs.old self.old →
+            LogsLines pairs.new self.new) }
         ensures said { OnOk result (IsScriptTold pairs.old self.old →
             IsScriptTold pairs.new self.new) }
         ensures out { IfOk result (λ moved. moved ≡ Moved.Quiet →
@@ -280,9 +279,8 @@ impl<'p> Script<'p> {
     // Logs how the current line ended, and goes to the next, if one comes behind it.
     fn end(&mut self, line: &Line, outcome: Outcome) -> Result<(), NoMemory>
         requires line { slice_get self.old.lines.now self.old.at ≡ Some line.now }
-        ensures script { (pairs : List PairValue) → IsScript pairs self.old →
-            IsSaidOf (seen_from self.old.partition self.old.seats.items pairs)
-            line.now.verb outcome → IsScript pairs self.new }
+        ensures script { (pairs : List PairValue) →
+            IsScript pairs self.old → IsScript pairs self.new }
         ensures rest { OnlyRuns self.old self.new }
         ensures ended { OnOk result (IsEnded line.now outcome self.old self.new) }
         ensures at { OnOk result (self.new.at ≡
@@ -321,7 +319,7 @@ impl<'p> Script<'p> {
         ensures credited { OnOk result ((pairs : List PairValue) → IsScript pairs self.old →
             IsCredited pairs self.old → IsCredited pairs self.new) }
         ensures logged { OnOk result ((pairs : List PairValue) → IsScript pairs self.old →
-            LogsStrokes pairs self.old → LogsStrokes pairs self.new) }
+            LogsLines pairs self.old → LogsLines pairs self.new) }
         ensures told { OnOk result ((pairs : List PairValue) (lan : LanValue) →
             IsScript pairs self.old → TellsPorts lan self.old → TellsPorts lan self.new) }
         ensures said { OnOk result ((pairs : List PairValue) → IsScript pairs self.old →

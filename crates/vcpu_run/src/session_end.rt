@@ -2,6 +2,7 @@
 ghost use Rattle.crq_session.specs.PlainState.{state_of};
 ghost use Rattle.vcpu_run.specs.Answered.{IsBehind, PutsInSessions};
 ghost use Rattle.vcpu_run.specs.Gone.{IsToldOfGone};
+ghost use Rattle.vcpu_run.specs.Reached.{HasBegun};
 
 use crq_session::{CrqEnd, EventAnswer, FreeAnswer, PlainEnd, PollAnswer, RegAnswer, SendAnswer};
 use vio_num::{Entry, NoMemory};
@@ -13,6 +14,7 @@ pub(crate) struct SessionEnd<'a> {
     ghost puts: { PutsInSessions (state_of end) },
     ghost behind: { IsBehind (state_of end) },
     ghost gone: { IsToldOfGone (state_of end) },
+    ghost served: { HasBegun (state_of end) },
 }
 
 impl CrqEnd for SessionEnd<'_> {

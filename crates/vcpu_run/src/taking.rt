@@ -3,6 +3,7 @@ ghost use Rattle.std.specs.Prelude.{◌≡◌, ◌≤◌, IfOk, None, OnOk, fals
 ghost use Rattle.boot_text.specs.declared.verb.Verb.TheVariants as verbs;
 ghost use Rattle.vscsi_client.specs.declared.TheConstants.{MIN_PAGES};
 ghost use Rattle.vcpu_run.specs.Credited.{StepsAgreed, taken_in};
+ghost use Rattle.vcpu_run.specs.DropsShown.{IsFullBy, StepFull};
 ghost use Rattle.vcpu_run.specs.EventsHeard.{Hears, StepHears, lost_by};
 ghost use Rattle.vcpu_run.specs.Links.{EndRests};
 ghost use Rattle.vcpu_run.specs.Sendings.{TookOf};
@@ -117,6 +118,7 @@ impl Driver {
             self.old.client self.new.client result }
         ensures takes { StepsTaken (verbs.Take count) taken.old taken.new
             self.old self.new result }
+        ensures full { StepFull (IsFullBy C.is_shared (C.state crq.new.end)) result }
         ensures gives { OnOk result (Gives self.old self.new
             (C.state crq.old.end) (C.state crq.new.end)) }
         ensures hears { StepHears result self.old.client self.new.client

@@ -46,8 +46,8 @@ pub returns-clause-called : goal.returns-clause-called
 returns-clause-called c =
     from_rows c.args.pairs.items c.args.scripts.items c.args.lan c.args.history.items c.args.grants.items c.args.copies.items c.rows_of.result _ _ c.rows_of.ensures.trace
     (ok_pair c.rows_of.result _ _ c.rows_of.ensures.queues c.rows_of.ensures.windows)
-    (λ rows keeps ordered lawful partitions of_plan ends. calls_are c.args.pairs.items c.args.scripts.items c.args.lan rows c.args.history.items c.args.grants.items c.args.copies.items partitions
-    c.requires.pairs c.requires.scripts lawful.0 lawful.1 of_plan ends.told)
+    (λ rows keeps ordered lawful partitions of_plan ends credited. calls_are c.args.pairs.items c.args.scripts.items c.args.lan rows c.args.history.items c.args.grants.items c.args.copies.items partitions
+    c.requires.pairs c.requires.scripts lawful.0 lawful.1 of_plan credited ends.told)
 
 pub returns-clause-copies : goal.returns-clause-copies
 returns-clause-copies c =
@@ -116,8 +116,8 @@ pub returns-clause-refusals : goal.returns-clause-refusals
 returns-clause-refusals c =
     from_rows c.args.pairs.items c.args.scripts.items c.args.lan c.args.history.items c.args.grants.items c.args.copies.items c.rows_of.result _ _ c.rows_of.ensures.trace
     (ok_pair c.rows_of.result _ _ c.rows_of.ensures.queues c.rows_of.ensures.windows)
-    (λ rows keeps ordered lawful partitions of_plan over told. refusals_are c.args.pairs.items c.args.scripts.items c.args.lan rows c.args.history.items c.args.grants.items c.args.copies.items partitions
-    c.requires.pairs c.requires.scripts lawful.0 lawful.1 of_plan over told)
+    (λ rows keeps ordered lawful partitions of_plan over told rests. refusals_are c.args.pairs.items c.args.scripts.items c.args.lan rows c.args.history.items c.args.grants.items c.args.copies.items partitions
+    c.requires.pairs c.requires.scripts lawful.0 lawful.1 of_plan over told rests)
 
 pub returns-clause-copied : goal.returns-clause-copied
 returns-clause-copied c =

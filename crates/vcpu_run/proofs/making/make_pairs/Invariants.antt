@@ -6,7 +6,7 @@ use Rattle.vcpu_run.specs.Answered.{AreAnswered}
 use Rattle.vcpu_run.specs.Links.{AreClosed}
 use Rattle.vcpu_run.specs.Machines.{IsPlanned}
 use Rattle.vcpu_run.specs.Pairs.{ArePairs}
-use Rattle.vcpu_run.specs.Received.{AreFresh}
+use Rattle.vcpu_run.specs.Received.{AreNew}
 use Rattle.vcpu_run.proofs.making.make_pairs.Given as goal
 
 abbrev pub invariant-loop-place : goal.invariant-loop-place
@@ -17,5 +17,5 @@ invariant-loop-place l = record {
   out : AreAllOut l.pairs.items;
   answered : AreAnswered [] l.pairs.items;
   closed : AreClosed l.pairs.items;
-  fresh : AreFresh l.pairs.items;
+  fresh : AreNew l.pairs.items;
 }

@@ -7,14 +7,14 @@ use Rattle.std.proofs.lemmas.Option.{slice_get-get_or}
 use Rattle.vcpu_run.specs.declared.pair.Pair.{Pair}
 use Rattle.vcpu_run.specs.Answered.{IsAnswered}
 use Rattle.vcpu_run.specs.LinesShow.{Sees, seen_at}
-use Rattle.vcpu_run.specs.Machines.{Stays}
+use Rattle.vcpu_run.specs.Machines.{KeepsEntries, Stays}
 use Rattle.vcpu_run.specs.Pairs.{IsPair}
 use Rattle.vcpu_run.specs.Received.{IsReceived}
 use Rattle.vcpu_run.proofs.CalmTurns.{served_calm}
 use Rattle.vcpu_run.proofs.ClientsTold.{clients_set}
 use Rattle.vcpu_run.proofs.Agreeing.{set_same}
 use Rattle.vcpu_run.proofs.HeardTurns.{heard_set, tells_before}
-use Rattle.vcpu_run.proofs.Keeping.{stays_same}
+use Rattle.vcpu_run.proofs.Keeping.{entries_same, stays_same}
 use Rattle.vcpu_run.proofs.LinesShown.{sees_same, serve_sees}
 use Rattle.vcpu_run.proofs.DropsKept.{more_served}
 use Rattle.vcpu_run.proofs.Listed.{each_on, each_set}
@@ -48,6 +48,7 @@ returns-clause-serving g c =
             each = each_on Stays pairs c.args.unit old c.serve.new.self stays_same here after.stays;
             sees = each_on (λ (a b : Pair). Sees (seen_at a) (seen_at b)) pairs c.args.unit old c.serve.new.self (λ pair. sees_same (seen_at pair)) here
                 (serve_sees old c.serve.new.self after.shows.window after.sent);
+            values = each_on KeepsEntries pairs c.args.unit old c.serve.new.self entries_same here after.shows.window.values;
           }) before.apart;
     }
 
@@ -62,6 +63,8 @@ returns-clause-stay g c =
       sees = each_on (λ (a b : Pair). Sees (seen_at a) (seen_at b)) pairs c.args.unit old c.serve.new.self (λ pair. sees_same (seen_at pair))
           (slice_get-get_or pairs c.args.unit c.index-pairs-unit.result c.requires.there)
           (serve_sees old c.serve.new.self c.serve.ensures.shows.window c.serve.ensures.sent);
+      values = each_on KeepsEntries pairs c.args.unit old c.serve.new.self entries_same
+          (slice_get-get_or pairs c.args.unit c.index-pairs-unit.result c.requires.there) c.serve.ensures.shows.window.values;
     }
 
 pub returns-clause-drivers : goal.returns-clause-drivers
@@ -139,7 +142,7 @@ returns-clause-clients g c =
       own = c.serve.ensures.owner;
       server = c.serve.ensures.stays.server;
       values = c.serve.ensures.values;
-      puts = more_served (slice_index_or pairs c.args.unit c.index-pairs-unit.result) c.serve.new.self c.serve.ensures.sent c.serve.ensures.full;
+      puts = more_served (slice_index_or pairs c.args.unit c.index-pairs-unit.result) c.serve.new.self c.serve.ensures.sent c.serve.ensures.full c.serve.ensures.served;
       calm = served_calm (slice_index_or pairs c.args.unit c.index-pairs-unit.result) c.serve.new.self c.serve.ensures.sent c.serve.ensures.kept;
     })
 

@@ -28,7 +28,7 @@ returns-then-is_of_servers-clause-run g c = run_same c.args.scripts.now
 
 pub returns-then-is_of_servers-clause-credited : goal.returns-then-is_of_servers-clause-credited
 returns-then-is_of_servers-clause-credited g c =
-    on_ok c.serve.result _ (λ are. credits_served c.args.pairs.now c.serve.new.pairs c.args.scripts.now c.serve.ensures.drivers c.serve.ensures.clients are)
+    on_ok c.serve.result _ (λ are. credits_served c.args.pairs.now c.serve.new.pairs c.args.scripts.now c.serve.ensures.stay c.serve.ensures.drivers c.serve.ensures.clients are)
 
 pub returns-else-is_of_servers-clause-machine : goal.returns-else-is_of_servers-clause-machine
 returns-else-is_of_servers-clause-machine g c =

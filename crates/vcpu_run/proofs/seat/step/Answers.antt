@@ -5,6 +5,7 @@ use Rattle.tce_window.specs.PortState.{PortPlace}
 use Rattle.vcpu_run.specs.declared.pair.Pair.{Pair}
 use Rattle.vcpu_run.specs.DropsShown.{PairShowsLine}
 use Rattle.vcpu_run.proofs.DropsKept.{pair_full}
+use Rattle.vcpu_run.proofs.ShutKept.{pair_shut}
 use Rattle.vcpu_run.proofs.LinesShown.{pair_shows}
 use Rattle.vcpu_run.specs.TakenScripts.{PairGives, PairHears, PairReads}
 use Rattle.vcpu_run.proofs.DataSteps.{pair_reads}
@@ -28,7 +29,9 @@ returns-clause-shows c =
     subst (λ (link : PlainLink). PairShowsLine c.args.line.now old (pair link) c.step.result) link_is (
       pair_shows old (pair end.link.now) (lent.ghost_name ∷ []) (end.link.ghost_name ∷ []) c.side.result.first end.first lent.now old.window.unit c.args.line.now c.step.result
           c.side.ensures.link c.side.ensures.first side (ap (λ (p : PortPlace). p.unit) c.step.ensures.works.window.place) c.step.ensures.shows,
-      pair_full (pair end.link.now) (end.link.ghost_name ∷ []) end.first c.args.line.now.verb c.step.result side c.step.ensures.full,
+      pair_full (pair end.link.now) (end.link.ghost_name ∷ []) end.first c.step.result side c.step.ensures.full,
+      pair_shut old (pair end.link.now) c.in-Some.driver (lent.ghost_name ∷ []) (end.link.ghost_name ∷ []) c.side.result.first end.first lent.now c.args.line.now.verb c.step.result
+          c.in-Some.is c.side.ensures.link c.side.ensures.first side c.step.ensures.shut,
     )
 
 pub returns-clause-gives : goal.returns-clause-gives
@@ -61,7 +64,7 @@ returns-clause-reads c =
     let link_is : end.link.now ≡ c.pair-2-1.given.0 = search rules in
     subst (λ (link : PlainLink). PairReads c.args.line.now.verb old (pair link) c.step.result) link_is
     (pair_reads c.step.result old (pair end.link.now) c.in-Some.driver c.step.new.self end.first (end.link.ghost_name ∷ []) c.args.line.now.verb
-    c.in-Some.is refl (ap (λ (p : EndPlace). p.first) c.step.ensures.works.place ∙ c.side.ensures.first) c.step.ensures.reads c.step.ensures.inward)
+    c.in-Some.is refl (ap (λ (p : EndPlace). p.first) c.step.ensures.works.place ∙ c.side.ensures.first) (c.step.ensures.reads refl) c.step.ensures.inward)
 
 pub returns-clause-makes : goal.returns-clause-makes
 returns-clause-makes c =

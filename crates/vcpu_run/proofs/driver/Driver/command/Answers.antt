@@ -3,6 +3,7 @@ use Rattle.vscsi_client.specs.Ports.{ports}
 use Rattle.vcpu_run.specs.Telling.{seated}
 use Rattle.vcpu_run.proofs.Askings.{asks_by, submit_told}
 use Rattle.vcpu_run.proofs.Credits.{submit_agreed}
+use Rattle.vcpu_run.proofs.ShutShown.{submit_shut}
 use Rattle.vcpu_run.proofs.DropsShown.{submit_full}
 use Rattle.vcpu_run.proofs.LinesShown.{submit_shows}
 use Rattle.vcpu_run.proofs.Working.{submit_works}
@@ -76,8 +77,15 @@ returns-clause-inward g c = λ verb is.
     c.submit.result c.sent.result is c.sent.ensures.sent c.submit.ensures.sent
 
 pub returns-clause-full : goal.returns-clause-full
-returns-clause-full g c = λ verb is.
-    submit_full verb c.args.line c.args.op.now c.args.self.now.client c.submit.new.self
+returns-clause-full g c =
+    submit_full c.args.line c.args.op.now c.args.self.now.client c.submit.new.self
+    (ports g.C.CrqEnd.is_shared (g.C.CrqEnd.state c.args.crq.now.end) g.O.WindowPort.is_shared (g.O.WindowPort.state c.args.own.now))
+    (ports g.C.CrqEnd.is_shared (g.C.CrqEnd.state c.submit.new.crq.end) g.O.WindowPort.is_shared (g.O.WindowPort.state c.submit.new.own))
+    c.submit.result c.sent.result c.sent.ensures.sent c.sent.ensures.why c.submit.ensures.crq_rest.place c.submit.ensures.refused c.submit.ensures.why
+
+pub returns-clause-shut : goal.returns-clause-shut
+returns-clause-shut g c = λ verb is.
+    submit_shut verb c.args.line c.args.op.now c.args.self.now.client c.submit.new.self
     (ports g.C.CrqEnd.is_shared (g.C.CrqEnd.state c.args.crq.now.end) g.O.WindowPort.is_shared (g.O.WindowPort.state c.args.own.now))
     (ports g.C.CrqEnd.is_shared (g.C.CrqEnd.state c.submit.new.crq.end) g.O.WindowPort.is_shared (g.O.WindowPort.state c.submit.new.own))
     c.submit.result c.sent.result is c.sent.ensures.sent c.sent.ensures.why c.submit.ensures.crq_rest.place c.submit.ensures.refused c.submit.ensures.why

@@ -30,17 +30,17 @@ pub returns-in-Err-InUse-clause-takes : goal.returns-in-Err-InUse-clause-takes
 returns-in-Err-InUse-clause-takes g c = data_waits c.args.tag c.args.self.now (record c.args.self.now { client = c.data_of.new.self }) Quiet (tags_still c.args.self.now (record c.args.self.now { client = c.data_of.new.self }) c.args.self.now.client refl c.data_of.ensures.same refl refl)
 
 pub returns-in-Ok-clause-reads : goal.returns-in-Ok-clause-reads
-returns-in-Ok-clause-reads g c = λ shared end.
+returns-in-Ok-clause-reads g c = λ alone shared end.
     told_read c.args.self.now.client c.args.tag shared g.O.WindowPort.is_shared (g.O.WindowPort.state c.args.own.now) (g.O.WindowPort.state c.data_of.new.own) end
-    c.in-Ok.bytes c.len.result c.sum_of.result (λ none. cc (c.in-Ok.is, c.data_of.ensures.unknown.1 none)) (search (rules, c.in-Ok.is, c.data_of.ensures.given)) (search rules) (search rules)
+    c.in-Ok.bytes c.len.result c.sum_of.result alone (λ none. cc (c.in-Ok.is, c.data_of.ensures.unknown.1 none)) (search (rules, c.in-Ok.is, c.data_of.ensures.given)) (search rules) (search rules)
 
 pub returns-in-Err-Stale-clause-reads : goal.returns-in-Err-Stale-clause-reads
-returns-in-Err-Stale-clause-reads g c = λ shared end.
+returns-in-Err-Stale-clause-reads g c = λ alone shared end.
     told_stale c.args.self.now.client c.args.tag shared g.O.WindowPort.is_shared (g.O.WindowPort.state c.args.own.now) (g.O.WindowPort.state c.data_of.new.own) end c.in-Err-Stale.page
     (λ none. not_unknown c.data_of.result c.in-Err-Stale.page (search rules) (c.data_of.ensures.unknown.1 none)) (search rules)
 
 pub returns-in-Err-Unknown-clause-reads : goal.returns-in-Err-Unknown-clause-reads
-returns-in-Err-Unknown-clause-reads g c = λ shared end. told_unknown (seen_by shared (g.O.WindowPort.state c.data_of.new.own) end) c.args.self.now.client c.args.tag
+returns-in-Err-Unknown-clause-reads g c = λ alone shared end. told_unknown (seen_by shared (g.O.WindowPort.state c.data_of.new.own) end) c.args.self.now.client c.args.tag
 
 pub sum_of-requires : goal.sum_of-requires
 sum_of-requires g c =

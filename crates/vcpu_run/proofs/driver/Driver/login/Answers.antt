@@ -11,6 +11,8 @@ use Rattle.vcpu_run.proofs.Opening.{turn_open}
 use Rattle.vcpu_run.proofs.Working.{turn_works}
 use Rattle.vcpu_run.proofs.TakingTurns.{tags_runs, turned_taken}
 use Rattle.vcpu_run.proofs.EventsHeard.{turned_hears}
+use Rattle.vcpu_run.specs.DropsShown.{IsFullBy}
+use Rattle.vcpu_run.proofs.DropsShown.{turned_full}
 use Rattle.vcpu_run.proofs.driver.Driver.login.Goals as goal
 
 pub returns-in_err-turn-clause-works : goal.returns-in_err-turn-clause-works
@@ -75,10 +77,10 @@ returns-clause-retakes g c =
     (tags_runs c.args.line c.in_ok-turn.ensures.turned.steps a b c.in_ok-turn.ensures.turned.runs) c.turned.ensures
 
 pub returns-clause-shows : goal.returns-clause-shows
-returns-clause-shows g c = λ unit mark verb no_request no_bytes no_read logs.
+returns-clause-shows g c = λ has unit mark verb no_request no_bytes no_read logs.
     let a = site c.args.self.now.client (ports g.C.CrqEnd.is_shared (g.C.CrqEnd.state c.args.crq.now.end) g.O.WindowPort.is_shared (g.O.WindowPort.state c.args.own.now)) in
     let b = site c.login_turn.new.self (ports g.C.CrqEnd.is_shared (g.C.CrqEnd.state c.login_turn.new.crq.end) g.O.WindowPort.is_shared (g.O.WindowPort.state c.login_turn.new.own)) in
-    login_shows c.args.line a b c.in_ok-turn.turn c.turned.result (PutsOne g.C.CrqEnd.is_shared (g.C.CrqEnd.state c.args.crq.now.end) (g.C.CrqEnd.state c.login_turn.new.crq.end)) unit mark verb no_request no_bytes no_read logs
+    login_shows c.args.line a b c.in_ok-turn.turn c.turned.result (PutsOne g.C.CrqEnd.is_shared (g.C.CrqEnd.state c.args.crq.now.end) (g.C.CrqEnd.state c.login_turn.new.crq.end)) unit mark verb no_request no_bytes no_read logs has
     c.in_ok-turn.ensures.turned c.turned.ensures
 
 pub returns-clause-hears : goal.returns-clause-hears
@@ -86,3 +88,6 @@ returns-clause-hears g c =
     let a = site c.args.self.now.client (ports g.C.CrqEnd.is_shared (g.C.CrqEnd.state c.args.crq.now.end) g.O.WindowPort.is_shared (g.O.WindowPort.state c.args.own.now)) in
     let b = site c.login_turn.new.self (ports g.C.CrqEnd.is_shared (g.C.CrqEnd.state c.login_turn.new.crq.end) g.O.WindowPort.is_shared (g.O.WindowPort.state c.login_turn.new.own)) in
     turned_hears c.args.line a b c.in_ok-turn.turn c.turned.result c.in_ok-turn.ensures.turned c.turned.ensures
+
+pub returns-clause-full : goal.returns-clause-full
+returns-clause-full g c = turned_full (IsFullBy g.C.CrqEnd.is_shared (g.C.CrqEnd.state c.login_turn.new.crq.end)) c.in_ok-turn.turn c.turned.result c.turned.ensures

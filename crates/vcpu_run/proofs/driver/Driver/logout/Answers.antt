@@ -3,6 +3,7 @@ use Rattle.vscsi_client.specs.Ports.{ports}
 use Rattle.vcpu_run.specs.Telling.{seated}
 use Rattle.vcpu_run.proofs.Askings.{logout_told}
 use Rattle.vcpu_run.proofs.Credits.{logout_agreed}
+use Rattle.vcpu_run.proofs.ShutShown.{logout_shut}
 use Rattle.vcpu_run.proofs.DropsShown.{logout_full}
 use Rattle.vcpu_run.proofs.LinesShown.{logout_shows}
 use Rattle.vcpu_run.proofs.Working.{logout_works}
@@ -70,6 +71,13 @@ returns-clause-hears g c =
 pub returns-clause-full : goal.returns-clause-full
 returns-clause-full g c =
     logout_full c.args.line c.args.self.now.client
+    (ports g.C.CrqEnd.is_shared (g.C.CrqEnd.state c.args.crq.now.end) g.O.WindowPort.is_shared (g.O.WindowPort.state c.args.own.now))
+    (ports g.C.CrqEnd.is_shared (g.C.CrqEnd.state c.logout.new.crq.end) g.O.WindowPort.is_shared (g.O.WindowPort.state c.logout.new.own))
+    c.logout.result c.sent.result c.sent.ensures.sent c.sent.ensures.why c.logout.ensures.crq_rest.place c.logout.ensures.refused c.logout.ensures.why
+
+pub returns-clause-shut : goal.returns-clause-shut
+returns-clause-shut g c =
+    logout_shut c.args.line c.args.self.now.client
     (ports g.C.CrqEnd.is_shared (g.C.CrqEnd.state c.args.crq.now.end) g.O.WindowPort.is_shared (g.O.WindowPort.state c.args.own.now))
     (ports g.C.CrqEnd.is_shared (g.C.CrqEnd.state c.logout.new.crq.end) g.O.WindowPort.is_shared (g.O.WindowPort.state c.logout.new.own))
     c.logout.result c.sent.result c.sent.ensures.sent c.sent.ensures.why c.logout.ensures.crq_rest.place c.logout.ensures.refused c.logout.ensures.why

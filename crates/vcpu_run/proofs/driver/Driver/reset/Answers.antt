@@ -1,7 +1,7 @@
 use Rattle.std.proofs.Common.{◌∙◌, ap, refl, rules, subst, true}
 use Rattle.boot_text.specs.declared.verb.Verb.TheVariants as verbs
 use Rattle.vscsi_client.specs.Turned.{unlinked}
-use Rattle.vcpu_run.specs.Takings.{AgreesTaken}
+use Rattle.vcpu_run.specs.Takings.{AgreesTaken, Gives}
 use Rattle.vcpu_run.specs.Credited.{taken_in}
 use Rattle.vcpu_run.proofs.Credits.{fresh_both, fresh_from}
 use Rattle.vcpu_run.specs.declared.script.Progress.TheVariants as progress
@@ -13,6 +13,7 @@ use Rattle.vcpu_run.specs.Telling.{seated}
 use Rattle.vcpu_run.proofs.LinesShown.{since_from, step_more}
 use Rattle.vcpu_run.proofs.LoginSteps.{begins_freed}
 use Rattle.vcpu_run.proofs.Working.{works_freed, works_on, works_ready, works_any}
+use Rattle.vcpu_run.proofs.Elsewhere.{ok_then}
 use Rattle.vcpu_run.proofs.Giving.{gives_freed, gives_on, gives_ready}
 use Rattle.vcpu_run.proofs.AnswersCounted.{from_taken, none_taken, same_agrees}
 use Rattle.vcpu_run.proofs.TakingCalls.{tags_still}
@@ -92,6 +93,17 @@ returns-in-Parameter-clause-told g c =
     (seated c.login-in-Parameter.new.self.client progress.Freed (g.C.CrqEnd.state c.login-in-Parameter.new.crq.end).registered) c.login-in-Parameter.result
     (c.in-Parameter.ensures.refused.registered ∙ c.free.ensures.parameter.0 c.in-Parameter.is) c.login-in-Parameter.ensures.renewed
 
+pub returns-in-Parameter-clause-gives : goal.returns-in-Parameter-clause-gives
+returns-in-Parameter-clause-gives g c =
+    ok_then c.login-in-Parameter.result
+    (Gives c.args.self.now c.login-in-Parameter.new.self (g.C.CrqEnd.state c.free.new.self.end) (g.C.CrqEnd.state c.login-in-Parameter.new.crq.end)) _
+    (λ given.
+    gives_on c.args.self.now c.args.self.now c.login-in-Parameter.new.self (g.C.CrqEnd.state c.args.crq.now.end) (g.C.CrqEnd.state c.free.new.self.end) (g.C.CrqEnd.state c.login-in-Parameter.new.crq.end)
+    (gives_on c.args.self.now c.args.self.now c.args.self.now (g.C.CrqEnd.state c.args.crq.now.end) (g.C.CrqEnd.state c.reserve.new.self.end) (g.C.CrqEnd.state c.free.new.self.end)
+    (gives_ready c.args.self.now (g.C.CrqEnd.state c.args.crq.now.end) (g.C.CrqEnd.state c.reserve.new.self.end) c.in_ok-reserve.ensures.rest)
+    (gives_ready c.args.self.now (g.C.CrqEnd.state c.reserve.new.self.end) (g.C.CrqEnd.state c.free.new.self.end) c.in-Parameter.ensures.refused)) given)
+    c.login-in-Parameter.ensures.gives
+
 pub returns-in-Parameter-clause-hears : goal.returns-in-Parameter-clause-hears
 returns-in-Parameter-clause-hears g c =
     step_hears_on c.login-in-Parameter.result c.args.self.now c.args.self.now c.login-in-Parameter.new.self.client
@@ -114,13 +126,13 @@ returns-in-Busy-clause-hears g c =
     (c.free.ensures.rest.taken ∙ c.in_ok-reserve.ensures.rest.taken)
 
 pub returns-in-Parameter-clause-shows : goal.returns-in-Parameter-clause-shows
-returns-in-Parameter-clause-shows g c = λ unit mark verb no_request no_bytes no_read logs.
+returns-in-Parameter-clause-shows g c = λ has unit mark verb no_request no_bytes no_read logs.
     step_more
     (seen_since g.C.CrqEnd.is_shared (g.O.WindowPort.state c.login-in-Parameter.new.own) (g.C.CrqEnd.state c.free.new.self.end) (g.C.CrqEnd.state c.login-in-Parameter.new.crq.end))
     (seen_since g.C.CrqEnd.is_shared (g.O.WindowPort.state c.login-in-Parameter.new.own) (g.C.CrqEnd.state c.args.crq.now.end) (g.C.CrqEnd.state c.login-in-Parameter.new.crq.end))
     (since_from g.C.CrqEnd.is_shared (g.O.WindowPort.state c.login-in-Parameter.new.own) (g.C.CrqEnd.state c.args.crq.now.end) (g.C.CrqEnd.state c.free.new.self.end)
     (g.C.CrqEnd.state c.login-in-Parameter.new.crq.end) (c.in-Parameter.ensures.refused.sent ∙ c.in_ok-reserve.ensures.rest.sent))
-    unit mark verb c.login-in-Parameter.result (c.login-in-Parameter.ensures.shows unit mark verb no_request no_bytes no_read logs)
+    unit mark verb c.login-in-Parameter.result (c.login-in-Parameter.ensures.shows has unit mark verb no_request no_bytes no_read logs)
 
 pub returns-then-eq-clause-frees : goal.returns-then-eq-clause-frees
 returns-then-eq-clause-frees g c = frees_calm c.args.progress.now (g.C.CrqEnd.state c.args.crq.now.end) (g.C.CrqEnd.state c.login.new.crq.end) (c.login.ensures.works.calm refl)

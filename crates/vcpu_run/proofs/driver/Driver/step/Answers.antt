@@ -51,7 +51,7 @@ pub returns-in-Some-clause-puts : goal.returns-in-Some-clause-puts
 returns-in-Some-clause-puts g c = same_puts c.args.line.now.verb c.command.result _ _ (sends_none c.args.line.now.verb c.in-Some.ensures.sends) c.command.ensures.values
 
 pub returns-in-Some-clause-reads : goal.returns-in-Some-clause-reads
-returns-in-Some-clause-reads g c =
+returns-in-Some-clause-reads g c = λ alone.
     none_read (seen_by g.C.CrqEnd.is_shared (g.O.WindowPort.state c.command.new.own) (g.C.CrqEnd.state c.command.new.crq.end)) c.args.self.now.client c.args.line.now.verb c.command.result
     (sends_no_data c.args.line.now.verb c.in-Some.ensures.sends)
 
@@ -59,7 +59,10 @@ pub returns-in-Some-clause-inward : goal.returns-in-Some-clause-inward
 returns-in-Some-clause-inward g c = c.command.ensures.inward c.args.line.now.verb c.in-Some.ensures.command
 
 pub returns-in-Some-clause-full : goal.returns-in-Some-clause-full
-returns-in-Some-clause-full g c = c.command.ensures.full c.args.line.now.verb c.in-Some.ensures.command
+returns-in-Some-clause-full g c = c.command.ensures.full
+
+pub returns-in-Some-clause-shut : goal.returns-in-Some-clause-shut
+returns-in-Some-clause-shut g c = c.command.ensures.shut c.args.line.now.verb c.in-Some.ensures.command
 
 pub returns-in-Some-clause-frees : goal.returns-in-Some-clause-frees
 returns-in-Some-clause-frees g c =

@@ -1,13 +1,17 @@
-use Rattle.std.proofs.Common.{rules, ◌≡◌, ◌∙◌, ℕ, List, IfOk, None, Some, ap, refl, subst, sym}
+use Rattle.std.proofs.Common.{rules, ◌≡◌, ◌∙◌, ℕ, List, IfOk, None, Result, Some, ap, refl, subst, sym}
+use Rattle.vio_num.specs.declared.memory.NoMemory.{NoMemory}
 use Rattle.boot_text.specs.declared.verb.Verb.{Verb}
 use Rattle.boot_text.specs.declared.verb.Verb.TheVariants as verbs
 use Rattle.unit_region.specs.Pattern.{pattern}
-use Rattle.unit_region.specs.Answers.{AnswersWrite, tce_of}
+use Rattle.unit_region.specs.Answers.{AnswersPut, AnswersRead, AnswersWrite, tce_of}
+use Rattle.unit_region.specs.declared.step.Step.{Step}
 use Rattle.vcpu_run.specs.Credited.{is_take, taken_in, uses_credit}
 use Rattle.vcpu_run.specs.Telling.{seated}
 use Rattle.vcpu_run.proofs.Askings.{aside_as, aside_told, told_as}
 use Rattle.vcpu_run.specs.Freeing.{is_reset}
-use Rattle.vcpu_run.specs.DropsShown.{IsFullBy, StepFull}
+use Rattle.vcpu_run.specs.DropsShown.{IsFullBy}
+use Rattle.vcpu_run.specs.ShutShown.{MeetsShut, StepShut}
+use Rattle.vcpu_run.proofs.ShutKept.{shut_none}
 use Rattle.vcpu_run.proofs.DropsShown.{full_none}
 use Rattle.vcpu_run.specs.LinesShow.{PutsOne, StepShows, further_of, read_by, requests, seen_by, seen_since, written_by}
 use Rattle.vcpu_run.specs.Replay.{asks}
@@ -193,11 +197,11 @@ returns-in-Tce-clause-out g c = λ alone.
 
 pub returns-in-Login-clause-shows : goal.returns-in-Login-clause-shows
 returns-in-Login-clause-shows g c =
-    c.login.ensures.shows (g.O.WindowPort.state c.args.own.now).place.unit c.args.line.now.number c.args.line.now.verb (ap requests c.in-Login.is) (ap written_by c.in-Login.is) (ap read_by c.in-Login.is) (ap further_of c.in-Login.is)
+    c.login.ensures.shows c.requires.slots (g.O.WindowPort.state c.args.own.now).place.unit c.args.line.now.number c.args.line.now.verb (ap requests c.in-Login.is) (ap written_by c.in-Login.is) (ap read_by c.in-Login.is) (ap further_of c.in-Login.is)
 
 pub returns-in-Reset-clause-shows : goal.returns-in-Reset-clause-shows
 returns-in-Reset-clause-shows g c =
-    c.reset.ensures.shows (g.O.WindowPort.state c.args.own.now).place.unit c.args.line.now.number c.args.line.now.verb (ap requests c.in-Reset.is) (ap written_by c.in-Reset.is) (ap read_by c.in-Reset.is) (ap further_of c.in-Reset.is)
+    c.reset.ensures.shows c.requires.slots (g.O.WindowPort.state c.args.own.now).place.unit c.args.line.now.number c.args.line.now.verb (ap requests c.in-Reset.is) (ap written_by c.in-Reset.is) (ap read_by c.in-Reset.is) (ap further_of c.in-Reset.is)
 
 pub returns-in-Take-clause-shows : goal.returns-in-Take-clause-shows
 returns-in-Take-clause-shows g c =
@@ -415,45 +419,45 @@ returns-in-Tce-clause-puts g c =
     c.args.line.now.verb c.put_tce.result c.in-Tce.is c.put_tce.ensures.answer
 
 pub returns-in-Login-clause-reads : goal.returns-in-Login-clause-reads
-returns-in-Login-clause-reads g c =
+returns-in-Login-clause-reads g c = λ alone.
     none_read (seen_by g.C.CrqEnd.is_shared (g.O.WindowPort.state c.login.new.own) (g.C.CrqEnd.state c.login.new.crq.end)) c.args.self.now.client c.args.line.now.verb c.login.result (ap given_by c.in-Login.is)
 
 pub returns-in-Reset-clause-reads : goal.returns-in-Reset-clause-reads
-returns-in-Reset-clause-reads g c =
+returns-in-Reset-clause-reads g c = λ alone.
     none_read (seen_by g.C.CrqEnd.is_shared (g.O.WindowPort.state c.reset.new.own) (g.C.CrqEnd.state c.reset.new.crq.end)) c.args.self.now.client c.args.line.now.verb c.reset.result (ap given_by c.in-Reset.is)
 
 pub returns-in-Logout-clause-reads : goal.returns-in-Logout-clause-reads
-returns-in-Logout-clause-reads g c =
+returns-in-Logout-clause-reads g c = λ alone.
     none_read (seen_by g.C.CrqEnd.is_shared (g.O.WindowPort.state c.logout.new.own) (g.C.CrqEnd.state c.logout.new.crq.end)) c.args.self.now.client c.args.line.now.verb c.logout.result (ap given_by c.in-Logout.is)
 
 pub returns-in-Task-clause-reads : goal.returns-in-Task-clause-reads
-returns-in-Task-clause-reads g c =
+returns-in-Task-clause-reads g c = λ alone.
     none_read (seen_by g.C.CrqEnd.is_shared (g.O.WindowPort.state c.task.new.own) (g.C.CrqEnd.state c.task.new.crq.end)) c.args.self.now.client c.args.line.now.verb c.task.result (ap given_by c.in-Task.is)
 
 pub returns-in-Take-clause-reads : goal.returns-in-Take-clause-reads
-returns-in-Take-clause-reads g c =
+returns-in-Take-clause-reads g c = λ alone.
     none_read (seen_by g.C.CrqEnd.is_shared (g.O.WindowPort.state c.take_on.new.own) (g.C.CrqEnd.state c.take_on.new.crq.end)) c.args.self.now.client c.args.line.now.verb c.take_on.result (ap given_by c.in-Take.is)
 
 pub returns-in-Fill-clause-reads : goal.returns-in-Fill-clause-reads
-returns-in-Fill-clause-reads g c =
+returns-in-Fill-clause-reads g c = λ alone.
     none_read (seen_by g.C.CrqEnd.is_shared (g.O.WindowPort.state c.fill.new.own) (g.C.CrqEnd.state c.args.crq.now.end)) c.args.self.now.client c.args.line.now.verb c.fill.result (ap given_by c.in-Fill.is)
 
 pub returns-in-Poke-clause-reads : goal.returns-in-Poke-clause-reads
-returns-in-Poke-clause-reads g c =
+returns-in-Poke-clause-reads g c = λ alone.
     none_read (seen_by g.C.CrqEnd.is_shared (g.O.WindowPort.state c.poke.new.own) (g.C.CrqEnd.state c.args.crq.now.end)) c.args.self.now.client c.args.line.now.verb c.poke.result (ap given_by c.in-Poke.is)
 
 pub returns-in-Peek-clause-reads : goal.returns-in-Peek-clause-reads
-returns-in-Peek-clause-reads g c =
+returns-in-Peek-clause-reads g c = λ alone.
     none_read (seen_by g.C.CrqEnd.is_shared (g.O.WindowPort.state c.peek.new.own) (g.C.CrqEnd.state c.args.crq.now.end)) c.args.self.now.client c.args.line.now.verb c.peek.result (ap given_by c.in-Peek.is)
 
 pub returns-in-Tce-clause-reads : goal.returns-in-Tce-clause-reads
-returns-in-Tce-clause-reads g c =
+returns-in-Tce-clause-reads g c = λ alone.
     none_read (seen_by g.C.CrqEnd.is_shared (g.O.WindowPort.state c.put_tce.new.own) (g.C.CrqEnd.state c.args.crq.now.end)) c.args.self.now.client c.args.line.now.verb c.put_tce.result (ap given_by c.in-Tce.is)
 
 pub returns-in-Data-clause-reads : goal.returns-in-Data-clause-reads
-returns-in-Data-clause-reads g c =
+returns-in-Data-clause-reads g c = λ alone.
     verb_reads (seen_by g.C.CrqEnd.is_shared (g.O.WindowPort.state c.data.new.own) (g.C.CrqEnd.state c.args.crq.now.end)) c.args.self.now.client _ c.args.line.now.verb c.data.result c.in-Data.is
-    (c.data.ensures.reads g.C.CrqEnd.is_shared (g.C.CrqEnd.state c.args.crq.now.end))
+    (c.data.ensures.reads alone g.C.CrqEnd.is_shared (g.C.CrqEnd.state c.args.crq.now.end))
 
 pub returns-in-Login-clause-inward : goal.returns-in-Login-clause-inward
 returns-in-Login-clause-inward g c = none_sends c.login.new.self.client.rows c.args.line.now.verb c.login.result (ap range_in c.in-Login.is)
@@ -582,36 +586,92 @@ returns-in-Reset-clause-frees g c =
     subst (λ b. StepMakes b c.args.progress.now c.reset.new.progress (g.C.CrqEnd.state c.args.crq.now.end) (g.C.CrqEnd.state c.reset.new.crq.end)) (sym (ap is_reset c.in-Reset.is)) c.reset.ensures.frees
 
 pub returns-in-Login-clause-full : goal.returns-in-Login-clause-full
-returns-in-Login-clause-full g c = full_none (IsFullBy g.C.CrqEnd.is_shared (g.C.CrqEnd.state c.login.new.crq.end)) c.args.line.now.verb c.login.result (ap requests c.in-Login.is)
+returns-in-Login-clause-full g c = c.login.ensures.full
 
 pub returns-in-Reset-clause-full : goal.returns-in-Reset-clause-full
-returns-in-Reset-clause-full g c = full_none (IsFullBy g.C.CrqEnd.is_shared (g.C.CrqEnd.state c.reset.new.crq.end)) c.args.line.now.verb c.reset.result (ap requests c.in-Reset.is)
-
-pub returns-in-Take-clause-full : goal.returns-in-Take-clause-full
-returns-in-Take-clause-full g c = full_none (IsFullBy g.C.CrqEnd.is_shared (g.C.CrqEnd.state c.take_on.new.crq.end)) c.args.line.now.verb c.take_on.result (ap requests c.in-Take.is)
-
-pub returns-in-Data-clause-full : goal.returns-in-Data-clause-full
-returns-in-Data-clause-full g c = full_none (IsFullBy g.C.CrqEnd.is_shared (g.C.CrqEnd.state c.args.crq.now.end)) c.args.line.now.verb c.data.result (ap requests c.in-Data.is)
-
-pub returns-in-Fill-clause-full : goal.returns-in-Fill-clause-full
-returns-in-Fill-clause-full g c = full_none (IsFullBy g.C.CrqEnd.is_shared (g.C.CrqEnd.state c.args.crq.now.end)) c.args.line.now.verb c.fill.result (ap requests c.in-Fill.is)
-
-pub returns-in-Poke-clause-full : goal.returns-in-Poke-clause-full
-returns-in-Poke-clause-full g c = full_none (IsFullBy g.C.CrqEnd.is_shared (g.C.CrqEnd.state c.args.crq.now.end)) c.args.line.now.verb c.poke.result (ap requests c.in-Poke.is)
-
-pub returns-in-Peek-clause-full : goal.returns-in-Peek-clause-full
-returns-in-Peek-clause-full g c = full_none (IsFullBy g.C.CrqEnd.is_shared (g.C.CrqEnd.state c.args.crq.now.end)) c.args.line.now.verb c.peek.result (ap requests c.in-Peek.is)
-
-pub returns-in-Tce-clause-full : goal.returns-in-Tce-clause-full
-returns-in-Tce-clause-full g c = full_none (IsFullBy g.C.CrqEnd.is_shared (g.C.CrqEnd.state c.args.crq.now.end)) c.args.line.now.verb c.put_tce.result (ap requests c.in-Tce.is)
+returns-in-Reset-clause-full g c = c.reset.ensures.full
 
 pub returns-in-Logout-clause-full : goal.returns-in-Logout-clause-full
-returns-in-Logout-clause-full g c =
-    subst (λ (v : Verb). StepFull (IsFullBy g.C.CrqEnd.is_shared (g.C.CrqEnd.state c.logout.new.crq.end)) v c.logout.result) (sym c.in-Logout.is) c.logout.ensures.full
+returns-in-Logout-clause-full g c = c.logout.ensures.full
 
 pub returns-in-Task-clause-full : goal.returns-in-Task-clause-full
-returns-in-Task-clause-full g c =
-    subst (λ (v : Verb). StepFull (IsFullBy g.C.CrqEnd.is_shared (g.C.CrqEnd.state c.task.new.crq.end)) v c.task.result) (sym c.in-Task.is) c.task.ensures.full
+returns-in-Task-clause-full g c = c.task.ensures.full
+
+pub returns-in-Take-clause-full : goal.returns-in-Take-clause-full
+returns-in-Take-clause-full g c = c.take_on.ensures.full
+
+pub returns-in-Data-clause-full : goal.returns-in-Data-clause-full
+returns-in-Data-clause-full g c = c.data.ensures.full g.C.CrqEnd.is_shared (g.C.CrqEnd.state c.args.crq.now.end)
+
+pub returns-in-Fill-clause-full : goal.returns-in-Fill-clause-full
+returns-in-Fill-clause-full g c =
+    full_none (IsFullBy g.C.CrqEnd.is_shared (g.C.CrqEnd.state c.args.crq.now.end)) c.fill.result
+    (λ number held e. subst (λ (r : Result Step NoMemory). IfOk r (AnswersWrite g.O.WindowPort.is_shared (g.O.WindowPort.state c.args.own.now) (g.O.WindowPort.state c.fill.new.own) c.in-Fill.at (pattern c.in-Fill.seed c.in-Fill.len) c.from-mark.result)) e c.fill.ensures.answer)
+
+pub returns-in-Poke-clause-full : goal.returns-in-Poke-clause-full
+returns-in-Poke-clause-full g c =
+    full_none (IsFullBy g.C.CrqEnd.is_shared (g.C.CrqEnd.state c.args.crq.now.end)) c.poke.result
+    (λ number held e. subst (λ (r : Result Step NoMemory). IfOk r (AnswersWrite g.O.WindowPort.is_shared (g.O.WindowPort.state c.args.own.now) (g.O.WindowPort.state c.poke.new.own) c.in-Poke.at c.as_slice.result.now c.from-mark.result)) e c.poke.ensures.answer)
+
+pub returns-in-Peek-clause-full : goal.returns-in-Peek-clause-full
+returns-in-Peek-clause-full g c =
+    full_none (IsFullBy g.C.CrqEnd.is_shared (g.C.CrqEnd.state c.args.crq.now.end)) c.peek.result
+    (λ number held e. subst (λ (r : Result Step NoMemory). IfOk r (AnswersRead (g.O.WindowPort.state c.args.own.now) (g.O.WindowPort.state c.peek.new.own) c.in-Peek.at c.in-Peek.len)) e c.peek.ensures.answer)
+
+pub returns-in-Tce-clause-full : goal.returns-in-Tce-clause-full
+returns-in-Tce-clause-full g c =
+    full_none (IsFullBy g.C.CrqEnd.is_shared (g.C.CrqEnd.state c.args.crq.now.end)) c.put_tce.result
+    (λ number held e. subst (λ (r : Result Step NoMemory). IfOk r (AnswersPut (g.O.WindowPort.state c.args.own.now) (g.O.WindowPort.state c.put_tce.new.own) c.in-Tce.entry (tce_of c.in-Tce.page c.in-Tce.readable c.in-Tce.writable))) e c.put_tce.ensures.answer)
+
+pub returns-in-Login-clause-shut : goal.returns-in-Login-clause-shut
+returns-in-Login-clause-shut g c =
+    shut_none (MeetsShut g.C.CrqEnd.is_shared c.args.self.now.client (g.C.CrqEnd.state c.args.crq.now.end) (g.C.CrqEnd.state c.login.new.crq.end))
+    c.args.line.now.verb c.login.result (ap requests c.in-Login.is)
+
+pub returns-in-Reset-clause-shut : goal.returns-in-Reset-clause-shut
+returns-in-Reset-clause-shut g c =
+    shut_none (MeetsShut g.C.CrqEnd.is_shared c.args.self.now.client (g.C.CrqEnd.state c.args.crq.now.end) (g.C.CrqEnd.state c.reset.new.crq.end))
+    c.args.line.now.verb c.reset.result (ap requests c.in-Reset.is)
+
+pub returns-in-Take-clause-shut : goal.returns-in-Take-clause-shut
+returns-in-Take-clause-shut g c =
+    shut_none (MeetsShut g.C.CrqEnd.is_shared c.args.self.now.client (g.C.CrqEnd.state c.args.crq.now.end) (g.C.CrqEnd.state c.take_on.new.crq.end))
+    c.args.line.now.verb c.take_on.result (ap requests c.in-Take.is)
+
+pub returns-in-Data-clause-shut : goal.returns-in-Data-clause-shut
+returns-in-Data-clause-shut g c =
+    shut_none (MeetsShut g.C.CrqEnd.is_shared c.args.self.now.client (g.C.CrqEnd.state c.args.crq.now.end) (g.C.CrqEnd.state c.args.crq.now.end))
+    c.args.line.now.verb c.data.result (ap requests c.in-Data.is)
+
+pub returns-in-Fill-clause-shut : goal.returns-in-Fill-clause-shut
+returns-in-Fill-clause-shut g c =
+    shut_none (MeetsShut g.C.CrqEnd.is_shared c.args.self.now.client (g.C.CrqEnd.state c.args.crq.now.end) (g.C.CrqEnd.state c.args.crq.now.end))
+    c.args.line.now.verb c.fill.result (ap requests c.in-Fill.is)
+
+pub returns-in-Poke-clause-shut : goal.returns-in-Poke-clause-shut
+returns-in-Poke-clause-shut g c =
+    shut_none (MeetsShut g.C.CrqEnd.is_shared c.args.self.now.client (g.C.CrqEnd.state c.args.crq.now.end) (g.C.CrqEnd.state c.args.crq.now.end))
+    c.args.line.now.verb c.poke.result (ap requests c.in-Poke.is)
+
+pub returns-in-Peek-clause-shut : goal.returns-in-Peek-clause-shut
+returns-in-Peek-clause-shut g c =
+    shut_none (MeetsShut g.C.CrqEnd.is_shared c.args.self.now.client (g.C.CrqEnd.state c.args.crq.now.end) (g.C.CrqEnd.state c.args.crq.now.end))
+    c.args.line.now.verb c.peek.result (ap requests c.in-Peek.is)
+
+pub returns-in-Tce-clause-shut : goal.returns-in-Tce-clause-shut
+returns-in-Tce-clause-shut g c =
+    shut_none (MeetsShut g.C.CrqEnd.is_shared c.args.self.now.client (g.C.CrqEnd.state c.args.crq.now.end) (g.C.CrqEnd.state c.args.crq.now.end))
+    c.args.line.now.verb c.put_tce.result (ap requests c.in-Tce.is)
+
+pub returns-in-Logout-clause-shut : goal.returns-in-Logout-clause-shut
+returns-in-Logout-clause-shut g c =
+    subst (λ (v : Verb). StepShut (MeetsShut g.C.CrqEnd.is_shared c.args.self.now.client (g.C.CrqEnd.state c.args.crq.now.end) (g.C.CrqEnd.state c.logout.new.crq.end)) v c.logout.result)
+    (sym c.in-Logout.is) c.logout.ensures.shut
+
+pub returns-in-Task-clause-shut : goal.returns-in-Task-clause-shut
+returns-in-Task-clause-shut g c =
+    subst (λ (v : Verb). StepShut (MeetsShut g.C.CrqEnd.is_shared c.args.self.now.client (g.C.CrqEnd.state c.args.crq.now.end) (g.C.CrqEnd.state c.task.new.crq.end)) v c.task.result)
+    (sym c.in-Task.is) c.task.ensures.shut
 
 pub returns-in-Login-clause-region : goal.returns-in-Login-clause-region
 returns-in-Login-clause-region g c = not_in_region g.O.WindowPort.is_shared c.args.line.now (g.O.WindowPort.state c.args.own.now) (g.O.WindowPort.state c.login.new.own) c.login.result (ap is_in_region c.in-Login.is)

@@ -21,7 +21,7 @@ pub returns-in_err-note-in-Answer-clause-works : goal.returns-in_err-note-in-Ans
 returns-in_err-note-in-Answer-clause-works g c =
     take_works g.C.CrqEnd.is_shared g.O.WindowPort.is_shared _ _ _ _ c.args.self.now _ c.take_answer.new.self c.take_answer.result c.note.ensures.unit c.note.ensures.client
     c.take_answer.ensures.taken c.take_answer.ensures.later c.take_answer.ensures.crq_rest c.take_answer.ensures.own_rest
-    (subst (AreResponsesRead (fronts_of (g.O.WindowPort.state c.take_answer.new.own).strokes)) (sym c.in_err-note-in-Answer.ensures.stays))
+    (λ has. subst (AreResponsesRead (fronts_of (g.O.WindowPort.state c.take_answer.new.own).strokes)) (sym c.in_err-note-in-Answer.ensures.stays))
 
 pub returns-in_ok-note-in-Answer-clause-works : goal.returns-in_ok-note-in-Answer-clause-works
 returns-in_ok-note-in-Answer-clause-works g c =
@@ -44,27 +44,27 @@ returns-in_ok-note-in-Answer-clause-took g c =
 pub returns-in-Stray-clause-works : goal.returns-in-Stray-clause-works
 returns-in-Stray-clause-works g c =
     take_works g.C.CrqEnd.is_shared g.O.WindowPort.is_shared _ _ _ _ c.args.self.now _ c.take_answer.new.self c.take_answer.result refl refl
-    c.take_answer.ensures.taken c.take_answer.ensures.later c.take_answer.ensures.crq_rest c.take_answer.ensures.own_rest (λ read. read)
+    c.take_answer.ensures.taken c.take_answer.ensures.later c.take_answer.ensures.crq_rest c.take_answer.ensures.own_rest (λ has read. read)
 
 pub returns-in-Other-clause-works : goal.returns-in-Other-clause-works
 returns-in-Other-clause-works g c =
     take_works g.C.CrqEnd.is_shared g.O.WindowPort.is_shared _ _ _ _ c.args.self.now _ c.take_answer.new.self c.take_answer.result refl refl
-    c.take_answer.ensures.taken c.take_answer.ensures.later c.take_answer.ensures.crq_rest c.take_answer.ensures.own_rest (λ read. read)
+    c.take_answer.ensures.taken c.take_answer.ensures.later c.take_answer.ensures.crq_rest c.take_answer.ensures.own_rest (λ has read. read)
 
 pub returns-in-Lost-clause-works : goal.returns-in-Lost-clause-works
 returns-in-Lost-clause-works g c =
     take_works g.C.CrqEnd.is_shared g.O.WindowPort.is_shared _ _ _ _ c.args.self.now _ c.take_answer.new.self c.take_answer.result refl refl
-    c.take_answer.ensures.taken c.take_answer.ensures.later c.take_answer.ensures.crq_rest c.take_answer.ensures.own_rest (λ read. read)
+    c.take_answer.ensures.taken c.take_answer.ensures.later c.take_answer.ensures.crq_rest c.take_answer.ensures.own_rest (λ has read. read)
 
 pub returns-in-Again-clause-works : goal.returns-in-Again-clause-works
 returns-in-Again-clause-works g c =
     take_works g.C.CrqEnd.is_shared g.O.WindowPort.is_shared _ _ _ _ c.args.self.now _ c.take_answer.new.self c.take_answer.result refl refl
-    c.take_answer.ensures.taken c.take_answer.ensures.later c.take_answer.ensures.crq_rest c.take_answer.ensures.own_rest (λ read. read)
+    c.take_answer.ensures.taken c.take_answer.ensures.later c.take_answer.ensures.crq_rest c.take_answer.ensures.own_rest (λ has read. read)
 
 pub returns-in-Empty-clause-works : goal.returns-in-Empty-clause-works
 returns-in-Empty-clause-works g c =
     take_works g.C.CrqEnd.is_shared g.O.WindowPort.is_shared _ _ _ _ c.args.self.now _ c.take_answer.new.self c.take_answer.result refl refl
-    c.take_answer.ensures.taken c.take_answer.ensures.later c.take_answer.ensures.crq_rest c.take_answer.ensures.own_rest (λ read. read)
+    c.take_answer.ensures.taken c.take_answer.ensures.later c.take_answer.ensures.crq_rest c.take_answer.ensures.own_rest (λ has read. read)
 
 pub returns-in_ok-note-in-Answer-clause-told : goal.returns-in_ok-note-in-Answer-clause-told
 returns-in_ok-note-in-Answer-clause-told g c =
@@ -252,4 +252,4 @@ returns-in-Empty-clause-hears g c =
 pub returns-in_err-tag-clause-works : goal.returns-in_err-tag-clause-works
 returns-in_err-tag-clause-works g c =
     take_works g.C.CrqEnd.is_shared g.O.WindowPort.is_shared _ _ _ _ c.args.self.now _ c.take_answer.new.self c.take_answer.result refl refl
-    c.take_answer.ensures.taken c.take_answer.ensures.later c.take_answer.ensures.crq_rest c.take_answer.ensures.own_rest (λ read. read)
+    c.take_answer.ensures.taken c.take_answer.ensures.later c.take_answer.ensures.crq_rest c.take_answer.ensures.own_rest (λ has read. read)

@@ -3,6 +3,7 @@ use Rattle.vscsi_client.specs.Ports.{ports}
 use Rattle.vcpu_run.specs.Telling.{seated}
 use Rattle.vcpu_run.proofs.Askings.{task_told}
 use Rattle.vcpu_run.proofs.Credits.{task_agreed}
+use Rattle.vcpu_run.proofs.ShutShown.{task_shut}
 use Rattle.vcpu_run.proofs.DropsShown.{task_full}
 use Rattle.vcpu_run.proofs.LinesShown.{task_shows}
 use Rattle.vcpu_run.proofs.Working.{task_works}
@@ -70,6 +71,13 @@ returns-clause-hears g c =
 pub returns-clause-full : goal.returns-clause-full
 returns-clause-full g c =
     task_full c.args.line c.args.function c.args.tag c.args.self.now.client
+    (ports g.C.CrqEnd.is_shared (g.C.CrqEnd.state c.args.crq.now.end) g.O.WindowPort.is_shared (g.O.WindowPort.state c.args.own.now))
+    (ports g.C.CrqEnd.is_shared (g.C.CrqEnd.state c.task.new.crq.end) g.O.WindowPort.is_shared (g.O.WindowPort.state c.task.new.own))
+    c.task.result c.sent.result c.sent.ensures.sent c.sent.ensures.why c.task.ensures.crq_rest.place c.task.ensures.refused c.task.ensures.why
+
+pub returns-clause-shut : goal.returns-clause-shut
+returns-clause-shut g c =
+    task_shut c.args.line c.args.function c.args.tag c.args.self.now.client
     (ports g.C.CrqEnd.is_shared (g.C.CrqEnd.state c.args.crq.now.end) g.O.WindowPort.is_shared (g.O.WindowPort.state c.args.own.now))
     (ports g.C.CrqEnd.is_shared (g.C.CrqEnd.state c.task.new.crq.end) g.O.WindowPort.is_shared (g.O.WindowPort.state c.task.new.own))
     c.task.result c.sent.result c.sent.ensures.sent c.sent.ensures.why c.task.ensures.crq_rest.place c.task.ensures.refused c.task.ensures.why

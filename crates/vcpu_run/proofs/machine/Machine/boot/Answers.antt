@@ -113,7 +113,12 @@ returns-clause-said g c =
     let scripts = c.in-Ok-make_scripts.scripts in
     let partitions = c.args.plan.now.partitions in
     let made : AreMade partitions scripts.items = rw (← c.as_slice-partitions.ensures) c.in-Ok-make_scripts.ensures in
-    told_made partitions pairs.items scripts.items made c.in-Ok.ensures.out (λ k pair found. ((c.in-Ok.ensures.fresh k pair found).untaken, (c.in-Ok.ensures.fresh k pair found).rows, (c.in-Ok.ensures.fresh k pair found).events))
+    told_made partitions pairs.items scripts.items made c.in-Ok.ensures.out (λ k pair found. (
+      (c.in-Ok.ensures.fresh k pair found).untaken,
+      (c.in-Ok.ensures.fresh k pair found).rows,
+      (c.in-Ok.ensures.fresh k pair found).events,
+      record { sent = λ zero. (c.in-Ok.ensures.fresh k pair found).sent; kept = λ zero. (c.in-Ok.ensures.fresh k pair found).event },
+    ))
 
 pub returns-clause-heard : goal.returns-clause-heard
 returns-clause-heard g c =

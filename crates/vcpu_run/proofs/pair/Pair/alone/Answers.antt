@@ -21,4 +21,4 @@ pub returns-clause-fresh : goal.returns-clause-fresh
 returns-clause-fresh c =
     let absent : UnitId = record { partition = c.args.server.partition; unit = 128 + c.args.server.unit } in
     let new = c.in_ok-open_link.ensures in
-    record { session = new.first.queue.session; taken = new.first.queue.taken; sent = new.second.queue.sent; kept = new.second.kept; untaken = tt; rows = ap (λ (window : WindowValue). window.rows) c.in_ok-open-2.ensures; bare = bare_new absent 1 c.in_ok-open-2.field-0 c.in_ok-open-2.ensures; events = no_events c.in_ok-open_link.field-0 new.first.queue.sent new.second.kept }
+    record { session = new.first.queue.session; taken = new.first.queue.taken; sent = new.second.queue.sent; kept = new.second.kept; event = new.first.kept; untaken = tt; rows = ap (λ (window : WindowValue). window.rows) c.in_ok-open-2.ensures; bare = bare_new absent 1 c.in_ok-open-2.field-0 c.in_ok-open-2.ensures; events = no_events c.in_ok-open_link.field-0 new.first.queue.sent new.second.kept }

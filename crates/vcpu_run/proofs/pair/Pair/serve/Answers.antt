@@ -33,6 +33,8 @@ use Rattle.vcpu_run.proofs.LoginsDealt.{closed_so}
 use Rattle.vcpu_run.proofs.Losing.{behind_back, sees_back, sees_lent}
 use Rattle.vcpu_run.proofs.Receiving.{received_elsewhere, received_served}
 use Rattle.vcpu_run.proofs.Keeping.{served}
+use Rattle.vcpu_run.specs.ShutShown.{StaysServed}
+use Rattle.vcpu_run.proofs.ShutKept.{begun_back, served_link}
 use Rattle.vcpu_run.specs.DropsShown.{KeepsFull}
 use Rattle.tce_window.specs.Window.{strokes_at}
 use Rattle.vcpu_run.proofs.ClientsServed.{none_owned}
@@ -163,6 +165,7 @@ returns-clause-received g c =
     c.turn.ensures.judged (subst AreBegun (ap (λ (side : PlainSide). side.queue.taken) after) c.turn.new.crq.puts.took)
     (behind_back c.turn.new.crq.end.first [] (c.turn.new.crq.end.link.ghost_name ∷ []) link first c.turn.new.crq.behind)
     (gone_back c.turn.new.crq.end.first [] (c.turn.new.crq.end.link.ghost_name ∷ []) link first c.turn.new.crq.gone)
+    (begun_back c.turn.new.crq.end.first [] (c.turn.new.crq.end.link.ghost_name ∷ []) link first c.turn.new.crq.served)
     (agrees_like server'.units.items c.args.unit _ _ (ap (λ (side : PlainSide). side.registered) (sym after))
     (c.turn.ensures.agrees (agrees_like server.units.items c.args.unit _ _ (ap (λ (side : PlainSide). side.registered) before) c.requires.received.agrees)))
     (sees_lent c.side.result.first [] _ old.link c.side.result.link.now c.side.ensures.first c.side.ensures.link)
@@ -232,6 +235,18 @@ returns-clause-full g c =
     (subst (λ (l : PlainLink). KeepsFull (was l) (now link)) c.side.ensures.link
     (serve_full c.side.result.first c.turn.new.crq.end.first (c.side.result.link.ghost_name ∷ []) (c.turn.new.crq.end.link.ghost_name ∷ []) (was lent) (now link)
     c.side.ensures.first c.turn.ensures.goes.queue_place))
+
+pub returns-clause-served : goal.returns-clause-served
+returns-clause-served g c =
+    let link = c.turn.new.crq.end.link.now in
+    let lent = c.side.result.link.now in
+    let goes = c.turn.ensures.goes in
+    let first : c.turn.new.crq.end.first ≡ true = ap (λ (place : EndPlace). place.first) goes.queue_place ∙ c.side.ensures.first in
+    let link_is : link ≡ c.self-1.given.0 = search rules in
+    subst (λ (l : PlainLink). StaysServed c.args.self.now.link l) link_is
+    (subst (λ (l : PlainLink). StaysServed l link) c.side.ensures.link
+    (served_link c.side.result.first c.turn.new.crq.end.first (c.side.result.link.ghost_name ∷ []) (c.turn.new.crq.end.link.ghost_name ∷ []) lent link
+    c.side.ensures.first first c.turn.new.crq.served goes.put goes.session goes.opens))
 
 pub returns-clause-taken : goal.returns-clause-taken
 returns-clause-taken g c =

@@ -30,6 +30,7 @@ returns-clause-fresh c =
       taken = new.first.queue.taken;
       sent = new.second.queue.sent;
       kept = new.second.kept;
+      event = new.first.kept;
       untaken = untaken_new c.args.seat.unit c.args.server (256 * c.args.queue) (256 * c.args.seat.queue) c.in_ok-open_link.field-0 driver.field-0 driver.ensures.answers driver.ensures.client new;
       rows = ap (λ (window : WindowValue). window.rows) c.in_ok-open-2.ensures;
       bare = bare_new c.args.seat.unit c.args.seat.pages c.in_ok-open-2.field-0 c.in_ok-open-2.ensures;

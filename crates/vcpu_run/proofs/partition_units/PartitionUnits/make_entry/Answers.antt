@@ -14,7 +14,7 @@ returns-in-Some-Client-clause-ports c = ports_still c.args.self.now.partition c.
 pub returns-in-Some-Port-clause-ports : goal.returns-in-Some-Port-clause-ports
 returns-in-Some-Port-clause-ports c =
     port_called_ok c.args.self.now.partition c.args.unit c.id-id.result (calls.Entry c.args.call) c.call.result c.args.self.now.lan.now _ c.id-id.ensures
-    c.call.ensures.seats c.call.ensures.counts c.call.ensures.sends c.call.ensures.beside c.call.ensures.others (kept_called c.call.result c.args.self.now.lan.now _ c.call.ensures.regions c.call.ensures.marks) c.call.ensures.macs
+    c.call.ensures.seats c.call.ensures.counts c.call.ensures.sends c.call.ensures.beside c.call.ensures.grows c.call.ensures.others (kept_called c.call.result c.args.self.now.lan.now _ c.call.ensures.regions c.call.ensures.marks) c.call.ensures.macs
 
 pub returns-in-Some-Port-clause-entries : goal.returns-in-Some-Port-clause-entries
 returns-in-Some-Port-clause-entries c =

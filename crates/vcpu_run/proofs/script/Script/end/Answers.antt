@@ -1,9 +1,7 @@
 use Rattle.std.proofs.Common.{◌∙◌, ◌<◌, ◌≤◌, List, ap, length, slice_get, refl, sym, subst}
 use Rattle.std.proofs.lemmas.Option.{slice_get_within}
 use Rattle.vio_trace.specs.declared.rows.LogRow.{LogRow}
-use Rattle.vcpu_run.specs.CallsSaid.{CallsSaid, seen_from}
 use Rattle.vcpu_run.specs.Scripts.{AreLogged}
-use Rattle.vcpu_run.proofs.CallsKept.{called_one}
 use Rattle.vcpu_run.proofs.Logging.{behind_within, logged_one}
 use Rattle.vcpu_run.proofs.script.Script.end.Goals as goal
 
@@ -11,7 +9,7 @@ pub place_behind-self-requires : goal.place_behind-self-requires
 place_behind-self-requires c = slice_get_within c.args.self.now.lines.now c.args.self.now.at c.args.line.now c.requires.line
 
 pub returns-clause-script : goal.returns-clause-script
-returns-clause-script c = λ pairs is said.
+returns-clause-script c = λ pairs is.
     let lines = c.args.self.now.lines.now in
     let at = c.args.self.now.at in
     let within : at < length lines = slice_get_within lines at c.args.line.now c.requires.line in
@@ -23,7 +21,4 @@ returns-clause-script c = λ pairs is said.
       logs = subst (λ (logs : List LogRow). AreLogged c.args.self.now.partition c.place_behind-self.result lines logs) (sym c.in_ok-push.ensures.items)
           (logged_one c.args.self.now.partition at c.place_behind-self.result lines c.args.self.now.logs.items c.args.line.now _
           c.requires.line refl refl c.place_behind-self.ensures is.logs);
-      called = subst (λ (logs : List LogRow). CallsSaid (seen_from c.args.self.now.partition c.args.self.now.seats.items pairs) lines logs) (sym c.in_ok-push.ensures.items)
-          (called_one (seen_from c.args.self.now.partition c.args.self.now.seats.items pairs) lines c.args.self.now.logs.items c.args.line.now _
-          (ap (slice_get lines) (is.logs.reached within) ∙ c.requires.line) is.called said);
     }

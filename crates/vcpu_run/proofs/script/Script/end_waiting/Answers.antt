@@ -1,4 +1,4 @@
-use Rattle.std.proofs.Common.{◌≡◌, ◌∙◌, ℕ, Some, Ok, ap, false, length, refl, slice_get, subst, sym}
+use Rattle.std.proofs.Common.{◌≡◌, ◌∙◌, ℕ, None, Some, Ok, ap, false, length, refl, slice_get, subst, sym}
 use Rattle.std.proofs.lemmas.Option.{slice_get_read, slice_get_within}
 use Rattle.vio_trace.specs.declared.outcome.Outcome.{Outcome}
 use Rattle.vio_trace.specs.declared.outcome.Outcome.TheVariants as outcomes
@@ -8,11 +8,15 @@ use Rattle.vcpu_run.specs.Credited.{StepsAgreed, grants, is_take, taken_in}
 use Rattle.vcpu_run.specs.CallsSaid.{seen_from}
 use Rattle.vcpu_run.specs.Suited.{IsLineAt, is_call}
 use Rattle.vcpu_run.proofs.CallsKept.{says_none}
+use Rattle.vcpu_run.proofs.CallRecords.{calls_ends}
+use Rattle.vcpu_run.specs.DataRead.{given_by}
+use Rattle.vcpu_run.proofs.LinesRead.{always_read}
 use Rattle.vcpu_run.proofs.ClientRecords.{logs_ends_none}
-use Rattle.vcpu_run.proofs.ClientsLay.{none_lay_same}
+use Rattle.vcpu_run.proofs.ClientsLay.{line_lays_none, none_lay_same}
+use Rattle.vcpu_run.proofs.Keeping.{all_same}
 use Rattle.vcpu_run.proofs.Crediting.{less_by, line_ends, lines_none}
 use Rattle.vcpu_run.proofs.Credits.{plain_fresh, takes_same, took_agreed}
-use Rattle.vcpu_run.proofs.ScriptsTold.{EndsWaiting, of_login, of_reset, of_take, waiting_told}
+use Rattle.vcpu_run.proofs.ScriptsTold.{EndsWaiting, of_login, of_reset, of_take, waiting_shows, waiting_told}
 use Rattle.vcpu_run.proofs.Held.{waited_held}
 use Rattle.vcpu_run.proofs.Logging.{all_at}
 use Rattle.vcpu_run.proofs.script.Script.end_waiting.Goals.{in-Login, in-Reset, in-Take}
@@ -27,24 +31,10 @@ use Rattle.boot_text.specs.declared.verb.Verb.{Verb}
 use Rattle.vcpu_run.proofs.script.Script.end_waiting.Goals as goal
 
 pub returns-clause-script : goal.returns-clause-script
-returns-clause-script c = λ pairs is.
-    let other : is_call c.in-Some.line.now.verb ≡ false =
-    elim c.match-line.branch [
-      | in-Login w ↦ ap is_call w.in-Login.is
-      | in-Reset w ↦ ap is_call w.in-Reset.is
-      | in-Take w ↦ ap is_call w.in-Take.is
-    ] in
-    c.end.ensures.script pairs is (says_none (seen_from c.args.self.now.partition c.args.self.now.seats.items pairs) c.in-Some.line.now.verb c.match-line.outcome other)
+returns-clause-script c = λ pairs is. c.end.ensures.script pairs is
 
 pub returns-in_err-end-clause-script : goal.returns-in_err-end-clause-script
-returns-in_err-end-clause-script c = λ pairs is.
-    let other : is_call c.in-Some.line.now.verb ≡ false =
-    elim c.match-line.branch [
-      | in-Login w ↦ ap is_call w.in-Login.is
-      | in-Reset w ↦ ap is_call w.in-Reset.is
-      | in-Take w ↦ ap is_call w.in-Take.is
-    ] in
-    c.end.ensures.script pairs is (says_none (seen_from c.args.self.now.partition c.args.self.now.seats.items pairs) c.in-Some.line.now.verb c.match-line.outcome other)
+returns-in_err-end-clause-script c = λ pairs is. c.end.ensures.script pairs is
 
 pub returns-clause-credited : goal.returns-clause-credited
 returns-clause-credited c = λ pairs script is.
@@ -133,7 +123,37 @@ returns-clause-logged c = λ pairs script is.
       | in-Reset w ↦ ap is_in_region w.in-Reset.is
       | in-Take w ↦ ap is_in_region w.in-Take.is
     ] in
-    logs_ends_none pairs pairs c.args.self.now c.end.new.self c.in-Some.line.now _ found
-    (record { in_order = script.in_order; reached = script.logs.reached })
-    (script.logs.reached (slice_get_within c.args.self.now.lines.now c.args.self.now.at c.in-Some.line.now found))
-    script.seats (none_lay_same pairs) apart c.end.ensures.rest.partition c.end.ensures.rest.lines c.end.ensures.rest.seats c.in_ok-end.ensures.ended.logs is
+    let ends : EndsWaiting c.args.self.now.progress c.in-Some.line.now.verb c.match-line.outcome =
+    elim c.match-line.branch [
+      | in-Login w ↦ of_login w.in-Login.is w.outcome-is
+      | in-Reset w ↦ of_reset w.in-Reset.is w.outcome-is
+      | in-Take w ↦ of_take w.in-Take.count w.in-Take.is (w.outcome-is ∙ ap (λ n. outcomes.Took n) w.taken.ensures)
+    ] in
+    let no_data : given_by c.in-Some.line.now.verb ≡ None =
+    elim c.match-line.branch [
+      | in-Login w ↦ ap given_by w.in-Login.is
+      | in-Reset w ↦ ap given_by w.in-Reset.is
+      | in-Take w ↦ ap given_by w.in-Take.is
+    ] in
+    let other : is_call c.in-Some.line.now.verb ≡ false =
+    elim c.match-line.branch [
+      | in-Login w ↦ ap is_call w.in-Login.is
+      | in-Reset w ↦ ap is_call w.in-Reset.is
+      | in-Take w ↦ ap is_call w.in-Take.is
+    ] in
+    record {
+      strokes =
+          logs_ends_none pairs pairs c.args.self.now c.end.new.self c.in-Some.line.now _ found
+          (record { in_order = script.in_order; reached = script.logs.reached })
+          (script.logs.reached (slice_get_within c.args.self.now.lines.now c.args.self.now.at c.in-Some.line.now found))
+          script.seats (none_lay_same pairs) apart
+          (always_read c.args.self.now.seats.items c.in-Some.line.now pairs pairs c.match-line.outcome
+          (λ seen unit. waiting_shows c.args.self.now.progress c.in-Some.line.now.verb c.match-line.outcome seen unit c.in-Some.line.now.number ends) no_data) c.end.ensures.rest.partition c.end.ensures.rest.lines c.end.ensures.rest.seats c.in_ok-end.ensures.ended.logs is.strokes;
+      calls =
+          calls_ends pairs pairs c.args.self.now c.end.new.self c.in-Some.line.now _ found
+          (record { in_order = script.in_order; reached = script.logs.reached })
+          (script.logs.reached (slice_get_within c.args.self.now.lines.now c.args.self.now.at c.in-Some.line.now found))
+          (all_same pairs) (line_lays_none c.args.self.now.seats.items c.in-Some.line.now pairs pairs (none_lay_same pairs)) is.strokes
+          (says_none (seen_from c.args.self.now.partition c.args.self.now.seats.items pairs) c.in-Some.line.now.verb c.match-line.outcome other)
+          c.end.ensures.rest.partition c.end.ensures.rest.lines c.end.ensures.rest.seats c.in_ok-end.ensures.ended.logs is.calls;
+    }

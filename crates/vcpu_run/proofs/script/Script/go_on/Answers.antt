@@ -3,7 +3,9 @@ use Rattle.vcpu_run.proofs.Resting.{ok_more}
 use Rattle.std.proofs.Common.{◌∙◌, ◌≤◌, List, ap, length, is_some, subst, sym}
 use Rattle.vcpu_run.specs.declared.unit_seat.Seat.{Seat}
 use Rattle.vcpu_run.specs.Agreed.{SameElse}
+use Rattle.vcpu_run.proofs.CallRecords.{calls_still}
 use Rattle.vcpu_run.proofs.ClientRecords.{logs_still}
+use Rattle.vcpu_run.proofs.Keeping.{driven_stay}
 use Rattle.vcpu_run.proofs.Crediting.{credited_rest, on_ok, over_by}
 use Rattle.vcpu_run.proofs.Driving.{clients_of}
 use Rattle.std.proofs.lemmas.Option.{slice_get_past}
@@ -85,4 +87,7 @@ returns-in-Some-clause-ports c = ok_more c.step.result _ _ (λ moved left is ove
 
 pub returns-in-None-clause-logged : goal.returns-in-None-clause-logged
 returns-in-None-clause-logged c =
-    on_ok c.take_rest.result _ (logs_still c.args.pairs.now c.take_rest.new.pairs c.args.self.now c.take_rest.ensures.lays)
+    on_ok c.take_rest.result _ (λ is. record {
+      strokes = logs_still c.args.pairs.now c.take_rest.new.pairs c.args.self.now c.take_rest.ensures.lays is.strokes;
+      calls = calls_still c.args.pairs.now c.take_rest.new.pairs c.args.self.now (driven_stay c.args.pairs.now c.take_rest.new.pairs c.take_rest.ensures.driven) c.take_rest.ensures.lays is.calls;
+    })

@@ -1,8 +1,6 @@
 use Rattle.std.proofs.Common.{List, sym, subst, arith, refl}
 use Rattle.vio_trace.specs.declared.rows.LogRow.{LogRow}
-use Rattle.vcpu_run.specs.CallsSaid.{CallsSaid, seen_from}
 use Rattle.vcpu_run.specs.Scripts.{AreLogged}
-use Rattle.vcpu_run.proofs.CallsKept.{called_none}
 use Rattle.vcpu_run.proofs.Crediting.{credited_new}
 use Rattle.vcpu_run.proofs.ScriptsTold.{new_told}
 use Rattle.vcpu_run.proofs.Logging.{logged_none}
@@ -17,8 +15,6 @@ returns-clause-script c = λ pairs seats. record {
   in_order = c.requires.in_order;
   at = omega arith;
   logs = subst (λ (logs : List LogRow). AreLogged c.args.partition 0 c.args.lines.now logs) (sym c.new.ensures.items) (logged_none c.args.partition c.args.lines.now);
-  called = subst (λ (logs : List LogRow). CallsSaid (seen_from c.args.partition c.args.seats.items pairs) c.args.lines.now logs) (sym c.new.ensures.items)
-      (called_none (seen_from c.args.partition c.args.seats.items pairs) c.args.lines.now);
 }
 
 pub returns-clause-credited : goal.returns-clause-credited

@@ -18,9 +18,12 @@ use Rattle.vcpu_run.specs.Telling.{LineOut, LineTold}
 use Rattle.vcpu_run.proofs.ScriptsTold.{line_ends_told, line_waits_told, waits_out}
 use Rattle.vcpu_run.specs.ClientStrokes.{LineLays}
 use Rattle.vcpu_run.specs.ClientMoments.{LineStepped}
+use Rattle.vcpu_run.proofs.CallRecords.{calls_ends, calls_waits}
 use Rattle.vcpu_run.proofs.ClientRecords.{logs_ends, logs_waits}
 use Rattle.vcpu_run.proofs.Crediting.{line_ends, line_waits}
 use Rattle.vcpu_run.proofs.Driving.{clients_of}
+use Rattle.vcpu_run.proofs.Keeping.{driven_stay}
+use Rattle.vcpu_run.proofs.LinesRead.{line_read}
 use Rattle.vcpu_run.proofs.Logging.{all_at, one_unit, script_steps}
 use Rattle.vcpu_run.specs.PortCalls.{EndsEntries}
 use Rattle.vcpu_run.specs.PortMacs.{EndsPorts}
@@ -70,9 +73,7 @@ returns-in_err-end-in-Ends c =
     all_at (IsLineAt c.args.self.now.seats.items) c.args.self.now.lines.now c.args.self.now.at c.args.line.now c.requires.line c.requires.script.lines in
     record {
       driven = c.step_unit.ensures.driven;
-      script = c.end.ensures.script c.step_unit.new.pairs (script_steps c.args.pairs.now c.step_unit.new.pairs c.args.self.now c.step_unit.new.progress c.step_unit.ensures.driven c.requires.script)
-          (subst (λ (st : Step). StepSaid (seen_from c.args.self.now.partition c.args.self.now.seats.items c.step_unit.new.pairs) c.args.line.now.verb st) c.in-Ends.is
-          (rw (← c.deref.ensures.value) c.in_ok-step.ensures.called));
+      script = c.end.ensures.script c.step_unit.new.pairs (script_steps c.args.pairs.now c.step_unit.new.pairs c.args.self.now c.step_unit.new.progress c.step_unit.ensures.driven c.requires.script);
       rest = record { partition = c.end.ensures.rest.partition; lines = c.end.ensures.rest.lines; seats = c.end.ensures.rest.seats };
       others = subst (λ (seats : List Seat). SameElse seats c.args.pairs.now c.step_unit.new.pairs) c.deref.ensures.value c.step_unit.ensures.others;
       unfreed = search rules;
@@ -93,9 +94,7 @@ returns-in_ok-end-in-Ends c =
     all_at (IsLineAt c.args.self.now.seats.items) c.args.self.now.lines.now c.args.self.now.at c.args.line.now c.requires.line c.requires.script.lines in
     record {
       driven = c.step_unit.ensures.driven;
-      script = c.end.ensures.script c.step_unit.new.pairs (script_steps c.args.pairs.now c.step_unit.new.pairs c.args.self.now c.step_unit.new.progress c.step_unit.ensures.driven c.requires.script)
-          (subst (λ (st : Step). StepSaid (seen_from c.args.self.now.partition c.args.self.now.seats.items c.step_unit.new.pairs) c.args.line.now.verb st) c.in-Ends.is
-          (rw (← c.deref.ensures.value) c.in_ok-step.ensures.called));
+      script = c.end.ensures.script c.step_unit.new.pairs (script_steps c.args.pairs.now c.step_unit.new.pairs c.args.self.now c.step_unit.new.progress c.step_unit.ensures.driven c.requires.script);
       rest = record { partition = c.end.ensures.rest.partition; lines = c.end.ensures.rest.lines; seats = c.end.ensures.rest.seats };
       others = subst (λ (seats : List Seat). SameElse seats c.args.pairs.now c.step_unit.new.pairs) c.deref.ensures.value c.step_unit.ensures.others;
       unfreed = λ keep.
@@ -115,15 +114,31 @@ returns-in_ok-end-in-Ends c =
           (subst (λ (st : Step). StepsLine c.args.self.now.seats.items c.args.line.now (taken_in c.args.self.now.progress) (taken_in c.step_unit.new.progress) c.args.pairs.now c.step_unit.new.pairs (Ok st)) c.in-Ends.is
           (rw (← c.deref.ensures.value) c.in_ok-step.ensures.credit))
           c.end.ensures.rest.lines c.end.ensures.rest.seats c.in_ok-end-in-Ends.ensures.ended.logs c.in_ok-end-in-Ends.ensures.ended.none is;
-      logged = λ is.
-          logs_ends c.args.pairs.now c.step_unit.new.pairs c.args.self.now c.end.new.self c.args.line.now
-          (record { partition = c.args.self.now.partition; line = c.args.line.now.number; outcome = c.in-Ends.outcome })
-          c.requires.line (record { in_order = c.requires.script.in_order; reached = c.requires.script.logs.reached })
-          (c.requires.script.logs.reached (slice_get_within c.args.self.now.lines.now c.args.self.now.at c.args.line.now c.requires.line)) c.requires.script.seats
-          (subst (λ (seats : List Seat). LineLays seats c.args.line.now c.args.pairs.now c.step_unit.new.pairs) c.deref.ensures.value c.step_unit.ensures.lays)
-          (subst (λ (st : Step). LineStepped c.args.self.now.seats.items c.args.line.now c.args.pairs.now c.step_unit.new.pairs (Ok st)) c.in-Ends.is
-          (subst (λ (seats : List Seat). LineStepped seats c.args.line.now c.args.pairs.now c.step_unit.new.pairs (Ok c.in_ok-step.step)) c.deref.ensures.value c.in_ok-step.ensures.region))
-          c.end.ensures.rest.partition c.end.ensures.rest.lines c.end.ensures.rest.seats c.in_ok-end-in-Ends.ensures.ended.logs is;
+      logged = λ is. record {
+        strokes =
+            logs_ends c.args.pairs.now c.step_unit.new.pairs c.args.self.now c.end.new.self c.args.line.now
+            (record { partition = c.args.self.now.partition; line = c.args.line.now.number; outcome = c.in-Ends.outcome })
+            c.requires.line (record { in_order = c.requires.script.in_order; reached = c.requires.script.logs.reached })
+            (c.requires.script.logs.reached (slice_get_within c.args.self.now.lines.now c.args.self.now.at c.args.line.now c.requires.line)) c.requires.script.seats
+            (subst (λ (seats : List Seat). LineLays seats c.args.line.now c.args.pairs.now c.step_unit.new.pairs) c.deref.ensures.value c.step_unit.ensures.lays)
+            (subst (λ (st : Step). LineStepped c.args.self.now.seats.items c.args.line.now c.args.pairs.now c.step_unit.new.pairs (Ok st)) c.in-Ends.is
+            (subst (λ (seats : List Seat). LineStepped seats c.args.line.now c.args.pairs.now c.step_unit.new.pairs (Ok c.in_ok-step.step)) c.deref.ensures.value c.in_ok-step.ensures.region))
+            (line_read c.args.self.now.seats.items c.args.line.now c.args.self.now.progress c.step_unit.new.progress c.args.pairs.now c.step_unit.new.pairs c.in-Ends.outcome
+            (λ no.
+            subst (λ (st : Step). LineTold c.args.self.now.seats.items c.args.line.now c.args.self.now.progress c.step_unit.new.progress c.args.pairs.now c.step_unit.new.pairs (Ok st)) c.in-Ends.is
+            (rw (← c.deref.ensures.value) (c.in_ok-step.ensures.said no))))
+            c.end.ensures.rest.partition c.end.ensures.rest.lines c.end.ensures.rest.seats c.in_ok-end-in-Ends.ensures.ended.logs is.strokes;
+        calls =
+            calls_ends c.args.pairs.now c.step_unit.new.pairs c.args.self.now c.end.new.self c.args.line.now
+            (record { partition = c.args.self.now.partition; line = c.args.line.now.number; outcome = c.in-Ends.outcome })
+            c.requires.line (record { in_order = c.requires.script.in_order; reached = c.requires.script.logs.reached })
+            (c.requires.script.logs.reached (slice_get_within c.args.self.now.lines.now c.args.self.now.at c.args.line.now c.requires.line))
+            (driven_stay c.args.pairs.now c.step_unit.new.pairs c.step_unit.ensures.driven)
+            (subst (λ (seats : List Seat). LineLays seats c.args.line.now c.args.pairs.now c.step_unit.new.pairs) c.deref.ensures.value c.step_unit.ensures.lays) is.strokes
+            (subst (λ (st : Step). StepSaid (seen_from c.args.self.now.partition c.args.self.now.seats.items c.step_unit.new.pairs) c.args.line.now.verb st) c.in-Ends.is
+            (rw (← c.deref.ensures.value) c.in_ok-step.ensures.called))
+            c.end.ensures.rest.partition c.end.ensures.rest.lines c.end.ensures.rest.seats c.in_ok-end-in-Ends.ensures.ended.logs is.calls;
+      };
       told = λ tells.
           step_tells c.args.lan.now c.step_unit.new.lan c.args.self.now c.end.new.self c.args.line.now
           (record { partition = c.args.self.now.partition; line = c.args.line.now.number; outcome = c.in-Ends.outcome }) (done_in c.step_unit.new.progress)
@@ -175,13 +190,21 @@ returns-in-Waits c =
           c.requires.line line.suited c.requires.script.seats
           (subst (λ (st : Step). StepsLine c.args.self.now.seats.items c.args.line.now (taken_in c.args.self.now.progress) (taken_in c.step_unit.new.progress) c.args.pairs.now c.step_unit.new.pairs (Ok st)) c.in-Waits.is
           (rw (← c.deref.ensures.value) c.in_ok-step.ensures.credit)) is;
-      logged = λ is.
-          logs_waits c.args.pairs.now c.step_unit.new.pairs c.args.self.now c.step_unit.new.progress c.args.line.now c.in-Waits.moved c.requires.line
-          (record { in_order = c.requires.script.in_order; reached = c.requires.script.logs.reached })
-          (c.requires.script.logs.reached (slice_get_within c.args.self.now.lines.now c.args.self.now.at c.args.line.now c.requires.line)) c.requires.script.seats
-          (subst (λ (seats : List Seat). LineLays seats c.args.line.now c.args.pairs.now c.step_unit.new.pairs) c.deref.ensures.value c.step_unit.ensures.lays)
-          (subst (λ (st : Step). LineStepped c.args.self.now.seats.items c.args.line.now c.args.pairs.now c.step_unit.new.pairs (Ok st)) c.in-Waits.is
-          (subst (λ (seats : List Seat). LineStepped seats c.args.line.now c.args.pairs.now c.step_unit.new.pairs (Ok c.in_ok-step.step)) c.deref.ensures.value c.in_ok-step.ensures.region)) is;
+      logged = λ is. record {
+        strokes =
+            logs_waits c.args.pairs.now c.step_unit.new.pairs c.args.self.now c.step_unit.new.progress c.args.line.now c.in-Waits.moved c.requires.line
+            (record { in_order = c.requires.script.in_order; reached = c.requires.script.logs.reached })
+            (c.requires.script.logs.reached (slice_get_within c.args.self.now.lines.now c.args.self.now.at c.args.line.now c.requires.line)) c.requires.script.seats
+            (subst (λ (seats : List Seat). LineLays seats c.args.line.now c.args.pairs.now c.step_unit.new.pairs) c.deref.ensures.value c.step_unit.ensures.lays)
+            (subst (λ (st : Step). LineStepped c.args.self.now.seats.items c.args.line.now c.args.pairs.now c.step_unit.new.pairs (Ok st)) c.in-Waits.is
+            (subst (λ (seats : List Seat). LineStepped seats c.args.line.now c.args.pairs.now c.step_unit.new.pairs (Ok c.in_ok-step.step)) c.deref.ensures.value c.in_ok-step.ensures.region)) is.strokes;
+        calls =
+            calls_waits c.args.pairs.now c.step_unit.new.pairs c.args.self.now c.step_unit.new.progress c.args.line.now c.requires.line
+            (record { in_order = c.requires.script.in_order; reached = c.requires.script.logs.reached })
+            (c.requires.script.logs.reached (slice_get_within c.args.self.now.lines.now c.args.self.now.at c.args.line.now c.requires.line))
+            (driven_stay c.args.pairs.now c.step_unit.new.pairs c.step_unit.ensures.driven)
+            (subst (λ (seats : List Seat). LineLays seats c.args.line.now c.args.pairs.now c.step_unit.new.pairs) c.deref.ensures.value c.step_unit.ensures.lays) is.calls;
+      };
       told = λ tells.
           port_waits c.args.lan.now c.step_unit.new.lan c.args.self.now (record c.args.self.now { progress = c.step_unit.new.progress }) c.args.line.now c.in-Waits.moved c.requires.line refl
           (λ call.

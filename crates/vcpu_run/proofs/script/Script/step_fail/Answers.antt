@@ -1,7 +1,11 @@
 use Rattle.vcpu_run.proofs.Resting.{not_quiet}
 use Rattle.std.proofs.Common.{◌≡◌, ◌+◌, ◌∙◌, List, ap, cond, length, refl, subst, sym, arith}
 use Rattle.std.proofs.lemmas.Option.{slice_get_within}
+use Rattle.vcpu_run.proofs.CallRecords.{calls_ends, calls_still}
+use Rattle.vcpu_run.proofs.LinesRead.{fails_read}
 use Rattle.vcpu_run.proofs.ClientRecords.{logs_ends_none, logs_still}
+use Rattle.vcpu_run.proofs.ClientsLay.{line_lays_none}
+use Rattle.vcpu_run.proofs.Keeping.{driven_stay}
 use Rattle.vcpu_run.proofs.PortLines.{fails_apart}
 use Rattle.vcpu_run.proofs.Crediting.{credited_all, credited_fails}
 use Rattle.vcpu_run.proofs.Driving.{clients_of}
@@ -32,12 +36,10 @@ returns-in_err-fail-clause-script c = script_stays c.args.pairs.now c.fail.new.p
 pub returns-in_err-end-clause-script : goal.returns-in_err-end-clause-script
 returns-in_err-end-clause-script c =
     c.end.ensures.script c.fail.new.pairs (script_stays c.args.pairs.now c.fail.new.pairs c.args.self.now c.fail.ensures.driven c.requires.script)
-    (says_none (seen_from c.args.self.now.partition c.args.self.now.seats.items c.fail.new.pairs) c.args.line.now.verb outcomes.Done (fails_no_call c.args.line.now.verb c.requires.fails))
 
 pub returns-then-branch-clause-script : goal.returns-then-branch-clause-script
 returns-then-branch-clause-script c =
     c.end.ensures.script c.fail.new.pairs (script_stays c.args.pairs.now c.fail.new.pairs c.args.self.now c.fail.ensures.driven c.requires.script)
-    (says_none (seen_from c.args.self.now.partition c.args.self.now.seats.items c.fail.new.pairs) c.args.line.now.verb outcomes.Done (fails_no_call c.args.line.now.verb c.requires.fails))
 
 pub returns-clause-script : goal.returns-clause-script
 returns-clause-script c = script_stays c.args.pairs.now c.fail.new.pairs c.args.self.now c.fail.ensures.driven c.requires.script
@@ -126,12 +128,25 @@ pub returns-clause-out : goal.returns-clause-out
 returns-clause-out c = λ is. fail_out c.fail.new.pairs c.args.self.now c.args.line.now c.requires.line (fails_reset c.args.line.now.verb c.requires.fails)
 
 pub returns-then-branch-clause-logged : goal.returns-then-branch-clause-logged
-returns-then-branch-clause-logged c = λ is.
-    logs_ends_none c.args.pairs.now c.fail.new.pairs c.args.self.now c.end.new.self c.args.line.now _ c.requires.line
-    (record { in_order = c.requires.script.in_order; reached = c.requires.script.logs.reached })
-    (c.requires.script.logs.reached (slice_get_within c.args.self.now.lines.now c.args.self.now.at c.args.line.now c.requires.line))
-    c.requires.script.seats c.fail.ensures.lays (fails_apart c.args.line.now.verb c.requires.fails)
-    c.end.ensures.rest.partition c.end.ensures.rest.lines c.end.ensures.rest.seats c.in_ok-end.ensures.ended.logs is
+returns-then-branch-clause-logged c = λ is. record {
+  strokes =
+      logs_ends_none c.args.pairs.now c.fail.new.pairs c.args.self.now c.end.new.self c.args.line.now _ c.requires.line
+      (record { in_order = c.requires.script.in_order; reached = c.requires.script.logs.reached })
+      (c.requires.script.logs.reached (slice_get_within c.args.self.now.lines.now c.args.self.now.at c.args.line.now c.requires.line))
+      c.requires.script.seats c.fail.ensures.lays (fails_apart c.args.line.now.verb c.requires.fails)
+      (fails_read c.args.self.now.seats.items c.args.line.now c.args.pairs.now c.fail.new.pairs _ c.requires.fails)
+      c.end.ensures.rest.partition c.end.ensures.rest.lines c.end.ensures.rest.seats c.in_ok-end.ensures.ended.logs is.strokes;
+  calls =
+      calls_ends c.args.pairs.now c.fail.new.pairs c.args.self.now c.end.new.self c.args.line.now _ c.requires.line
+      (record { in_order = c.requires.script.in_order; reached = c.requires.script.logs.reached })
+      (c.requires.script.logs.reached (slice_get_within c.args.self.now.lines.now c.args.self.now.at c.args.line.now c.requires.line))
+      (driven_stay c.args.pairs.now c.fail.new.pairs c.fail.ensures.driven) (line_lays_none c.args.self.now.seats.items c.args.line.now c.args.pairs.now c.fail.new.pairs c.fail.ensures.lays)
+      is.strokes (says_none (seen_from c.args.self.now.partition c.args.self.now.seats.items c.fail.new.pairs) c.args.line.now.verb outcomes.Done (fails_no_call c.args.line.now.verb c.requires.fails))
+      c.end.ensures.rest.partition c.end.ensures.rest.lines c.end.ensures.rest.seats c.in_ok-end.ensures.ended.logs is.calls;
+}
 
 pub returns-clause-logged : goal.returns-clause-logged
-returns-clause-logged c = λ is. logs_still c.args.pairs.now c.fail.new.pairs c.args.self.now c.fail.ensures.lays is
+returns-clause-logged c = λ is. record {
+  strokes = logs_still c.args.pairs.now c.fail.new.pairs c.args.self.now c.fail.ensures.lays is.strokes;
+  calls = calls_still c.args.pairs.now c.fail.new.pairs c.args.self.now (driven_stay c.args.pairs.now c.fail.new.pairs c.fail.ensures.driven) c.fail.ensures.lays is.calls;
+}

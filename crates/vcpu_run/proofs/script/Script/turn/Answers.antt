@@ -1,4 +1,5 @@
 use Rattle.std.proofs.Common.{List, subst}
+use Rattle.vcpu_run.proofs.CallRecords.{calls_served}
 use Rattle.vcpu_run.proofs.ClientRecords.{logs_served}
 use Rattle.vcpu_run.proofs.Crediting.{credited_same}
 use Rattle.vcpu_run.proofs.Driving.{clients_of, driven_on, still_drivers}
@@ -6,6 +7,7 @@ use Rattle.vcpu_run.specs.Agreed.{SameElse}
 use Rattle.vcpu_run.specs.declared.unit_seat.Seat.{Seat}
 use Rattle.vcpu_run.proofs.Elsewhere.{else_on}
 use Rattle.vcpu_run.proofs.ScriptsTold.{clients_told}
+use Rattle.vcpu_run.proofs.Keeping.{driven_stay}
 use Rattle.vcpu_run.proofs.Logging.{script_stays}
 use Rattle.vcpu_run.specs.Links.{EventsWait}
 use Rattle.vcpu_run.proofs.Held.{still_held, turned_held}
@@ -81,4 +83,8 @@ returns-clause-ports c = λ is over. c.in_ok-moved.ensures.ports (c.either.ensur
 
 pub returns-clause-logged : goal.returns-clause-logged
 returns-clause-logged c = λ is.
-    c.in_ok-moved.ensures.logged (logs_served c.args.pairs.now c.push_events.new.pairs c.args.self.now c.push_events.ensures.clients is)
+    c.in_ok-moved.ensures.logged (record {
+      strokes = logs_served c.args.pairs.now c.push_events.new.pairs c.args.self.now c.push_events.ensures.clients is.strokes;
+      calls = calls_served c.args.pairs.now c.push_events.new.pairs c.args.self.now (driven_stay c.args.pairs.now c.push_events.new.pairs c.push_events.ensures.driven)
+          c.push_events.ensures.clients is.calls;
+    })

@@ -1,9 +1,15 @@
 use Rattle.vio_num.specs.Entry.{partner_failed}
 use Rattle.crq_session.specs.PlainState.{state_of}
 use Rattle.vcpu_run.proofs.Gone.{gone_frees}
+use Rattle.vcpu_run.proofs.ShutKept.{begun_frees, in_session}
 use Rattle.vcpu_run.proofs.session_end.SessionEndCrqEnd.fail.Goals as goal
 
 pub invariant_of-self-clause-gone : goal.invariant_of-self-clause-gone
 invariant_of-self-clause-gone c =
     gone_frees (state_of c.args.self.now.end) (state_of c.fail.new.self) partner_failed c.fail.result c.fail.ensures.rest c.fail.ensures.success c.fail.ensures.busy c.fail.ensures.refused
     c.args.self.now.gone
+
+pub invariant_of-self-clause-served : goal.invariant_of-self-clause-served
+invariant_of-self-clause-served c =
+    begun_frees (state_of c.args.self.now.end) (state_of c.fail.new.self) partner_failed c.fail.result (in_session c.args.self.now.end) c.fail.ensures.rest c.fail.ensures.success
+    c.fail.ensures.busy c.fail.ensures.refused c.args.self.now.served

@@ -1,6 +1,7 @@
 use Rattle.crq_session.specs.PlainState.{state_of}
 use Rattle.vcpu_run.proofs.Losing.{behind_polls}
 use Rattle.vcpu_run.proofs.Gone.{gone_same}
+use Rattle.vcpu_run.proofs.ShutKept.{begun_same}
 use Rattle.vcpu_run.proofs.session_end.SessionEndCrqEnd.poll.Goals as goal
 
 pub invariant_of-self-clause-behind : goal.invariant_of-self-clause-behind
@@ -11,3 +12,7 @@ invariant_of-self-clause-behind c =
 pub invariant_of-self-clause-gone : goal.invariant_of-self-clause-gone
 invariant_of-self-clause-gone c =
     gone_same (state_of c.args.self.now.end) (state_of c.poll.new.self) c.poll.ensures.rest.place c.poll.ensures.rest.last_session c.poll.ensures.rest.registered c.args.self.now.gone
+
+pub invariant_of-self-clause-served : goal.invariant_of-self-clause-served
+invariant_of-self-clause-served c =
+    begun_same (state_of c.args.self.now.end) (state_of c.poll.new.self) c.poll.ensures.rest.last_session c.poll.ensures.rest.sent c.poll.ensures.rest.kept c.args.self.now.served
