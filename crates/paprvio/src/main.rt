@@ -39,7 +39,8 @@ const USAGE: &str = "usage: paprvio IMAGE run [--workers N] < BOOT-TEXT > TRACE
        paprvio IMAGE gen SEED > BOOT-TEXT
        paprvio --help | --version
 
-IMAGE is a file of 512-byte blocks, or - for 2,048 blocks of zeros in memory.
+IMAGE is a file of 512-byte blocks, or - for 2,048 blocks of zeros in memory:
+    paprvio disk.img run < examples/read-and-write.vio
 run reads a boot text from standard input and writes the trace of its run to standard output:
     paprvio - run < examples/first-login.vio
 gen writes the boot text of SEED, a number below 4294967296: eight clients that write and read back.
@@ -47,7 +48,10 @@ gen writes the boot text of SEED, a number below 4294967296: eight clients that 
 summary runs the boot text of SEED and writes how many requests were served, how many answers were
 taken, and the sum of the bytes that were read:
     paprvio - summary 7
---workers N, 1 to 16, is read and has no effect yet: every run is on one thread.
+--workers N, 1 to 16, is read and has no effect yet, every run being on one thread:
+    paprvio - run --workers 4 < examples/first-login.vio
+--help writes this, and --version the version:
+    paprvio --version
 Statuses: 0 done, 1 other words, 2 refused boot text, 3 input failed, 4 output failed,
 5 image failed, 6 no memory.
 ";

@@ -119,6 +119,8 @@ static THREE_COMMANDS_UNDER_TWO_CREDITS_CLOSE_THE_SESSION_SCRIPT: [Step; 9] = [
     Rows(0, 0),
 ];
 
+// Seen elsewhere: more requests than there are slots are dropped without an answer. Here the one above the limit closes the
+// session (`Target` of srp_credits, clauses `after` and `refused`).
 #[test]
 fn three_commands_under_two_credits_close_the_session(rt: HostRuntime) -> Result<(), Fail> {
     let over = Grant::Lapsed {

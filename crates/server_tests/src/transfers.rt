@@ -221,7 +221,7 @@ static A_SHORT_WRITE_WRITES_NOTHING_SCRIPT: [Step; 8] = [
 ];
 
 // Seen elsewhere: a short WRITE(10) answers good, and fills the blocks that got no data with old bytes. Here the disk
-// step writes nothing.
+// step writes nothing (`execute` of block_disk, clauses `reply` and `image`).
 #[test]
 fn a_short_write_writes_nothing(rt: HostRuntime) {
     assert_eq!(rt;
@@ -230,7 +230,8 @@ fn a_short_write_writes_nothing(rt: HostRuntime) {
     );
 }
 
-// Seen elsewhere: the length of an indirect table bounds an allocation. Here it is refused above 4,096.
+// Seen elsewhere: the length of an indirect table bounds an allocation. Here it is refused above 4,096 (`pieces_of` of srp_desc,
+// clause `refusal`).
 #[test]
 fn a_table_of_a_bad_length_is_refused(rt: HostRuntime) {
     for (len, total) in [(0, 0), (0, 512), (8, 512), (4_112, 512), (0xFFFF_FFF0, 512)] {
