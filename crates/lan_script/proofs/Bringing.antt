@@ -16,7 +16,7 @@ use Rattle.lan_switch.specs.Sending.{AreOffered, IsOfferedAt, Offering, Takes, h
 use Rattle.lan_switch.specs.Switch.{AreAscending, port_of, same_unit, unit_of}
 use Rattle.vio_trace.specs.declared.lan_rows.FrameRow.{FrameRow}
 use Rattle.vio_trace.specs.declared.lan_rows.PostRow.{PostRow}
-use Rattle.lan_script.specs.Invariant.{HaveBegun, posted_at, posted_in, rows_at, rows_in}
+use Rattle.lan_script.specs.Invariant.{HaveBegun, posts_at, posted_in, rows_at, rows_in}
 use Rattle.lan_script.proofs.Carrying.{Gathers, gathers_own}
 use Rattle.lan_script.proofs.Filling.{HasFrame, offer_gathers, side_after, side_before}
 use Rattle.lan_script.proofs.Gains.{apart_from}
@@ -142,11 +142,11 @@ begun_at (s ∷ ss) v port begun at opened =
 -- nothing was done at the unit
 pub left_alone : (o : Offering) (old new : List Station) (frames : List FrameRow) (v : UnitId) → o.windows.facts' v ≡ o.windows.facts v
     → port_of new v ≡ port_of old v
-    → Gathers (side_before o v) (side_after o v) (posted_at old v) (posted_at new v) (rows_at old v) (rows_at new v) frames
+    → Gathers (side_before o v) (side_after o v) (posts_at old v) (posts_at new v) (rows_at old v) (rows_at new v) frames
 left_alone o old new frames v facts port =
-    subst (λ (w : Side). Gathers (side_before o v) w (posted_at old v) (posted_at new v) (rows_at old v) (rows_at new v) frames)
+    subst (λ (w : Side). Gathers (side_before o v) w (posts_at old v) (posts_at new v) (rows_at old v) (rows_at new v) frames)
     (sym (ap (λ (f : WindowFacts). record { unit = v; values = f.values; strokes = f.strokes }) facts))
-    (gathers_own (side_before o v) (side_before o v) (posted_at old v) (posted_at new v) (rows_at old v) (rows_at new v) frames (side_same (side_before o v))
+    (gathers_own (side_before o v) (side_before o v) (posts_at old v) (posts_at new v) (rows_at old v) (rows_at new v) frames (side_same (side_before o v))
     (λ p. own_same v ((side_before o v).strokes p))
     (λ post has. subst (λ (l : List PostRow). Contains l post) (sym (ap (λ x. posted_in v x) port)) has) (ap (λ x. rows_in v x) port))
 
@@ -154,9 +154,9 @@ left_alone o old new frames v facts port =
 pub brought : (o : Offering) (old new : List Station) (offers : List Offer) (frames : List FrameRow) (v : UnitId) → o.windows.is_shared ≡ false
     → (o.windows.facts v).unit ≡ v → HaveBegun old
     → ((other : UnitId) → has_offer other offers ≡ false → o.windows.facts' other ≡ o.windows.facts other) → HasFrame o frames → Brings o old new offers v
-    → Gathers (side_before o v) (side_after o v) (posted_at old v) (posted_at new v) (rows_at old v) (rows_at new v) frames
+    → Gathers (side_before o v) (side_after o v) (posts_at old v) (posts_at new v) (rows_at old v) (rows_at new v) frames
 brought o old new offers frames v plain own begun beside f (inl h) =
-    subst (λ (a : Option PortValue). Gathers (side_before o v) (side_after o v) (posted_in v a) (posted_at new v) (rows_in v a) (rows_at new v) frames) (sym h.was)
+    subst (λ (a : Option PortValue). Gathers (side_before o v) (side_after o v) (posted_in v a) (posts_at new v) (rows_in v a) (rows_at new v) frames) (sym h.was)
     (subst (λ (b : Option PortValue). Gathers (side_before o v) (side_after o v) (posted_in v (Some h.before)) (posted_in v b) (rows_in v (Some h.before)) (rows_in v b) frames) (sym h.is)
     (offer_gathers o v h.before h.after frames h.answer plain own h.offered h.memory (begun_at old v h.before begun h.was h.opened) f))
 brought o old new offers frames v plain own begun beside f (inr h) = left_alone o old new frames v (beside v h.none) h.same

@@ -16,7 +16,7 @@ use Rattle.lan_switch.specs.declared.station.Station.{Station}
 use Rattle.vio_trace.specs.declared.lan_rows.FrameRow.{FrameRow}
 use Rattle.vio_trace.specs.declared.lan_rows.PostRow.{PostRow}
 use Rattle.lan_script.specs.declared.windows.Place.{Place}
-use Rattle.lan_script.specs.Invariant.{CarryAll, all_of, posted_at, posted_in, rows_at, side_in}
+use Rattle.lan_script.specs.Invariant.{CarryAll, all_of, posts_at, posted_in, rows_at, side_in}
 use Rattle.lan_script.specs.Windows.{facts_of, window_in, with_window}
 use Rattle.lan_script.proofs.Balance.{sees_with}
 use Rattle.lan_script.proofs.Carrying.{Gathers, all_read, gathered, gathers_own}
@@ -70,7 +70,7 @@ changed unit v (s ∷ ss) before after at same =
 
 -- its posts are there
 posts_with : (unit v : UnitId) (ss : List Station) (before after : PortValue) → KeepsPosts before after → Changed unit v ss before after → (post : PostRow)
-    → Contains (posted_at ss v) post → Contains (posted_at (with_port unit after ss) v) post
+    → Contains (posts_at ss v) post → Contains (posts_at (with_port unit after ss) v) post
 posts_with unit v ss before after keeps (inl h) post has = subst (λ o. Contains (posted_in v o) post) (sym h) has
 posts_with unit v ss before after keeps (inr h) post has =
     subst (λ o. Contains (posted_in v o) post) (sym h.1) (keeps v post (subst (λ o. Contains (posted_in v o) post) h.0 has))
@@ -80,8 +80,8 @@ pub carried_with : (ps : List Place) (frames : List (List FrameRow)) (unit : Uni
     → port_of ss unit ≡ Some before → after.unit ≡ before.unit → KeepsTally before after → KeepsPosts before after → CarryAll ss ps frames
     → CarryAll (with_port unit after ss) ps frames
 carried_with ps frames unit ss before after at same keeps posts is =
-    gathered (side_in ps) (side_in ps) (posted_at ss) (posted_at (with_port unit after ss)) (rows_at ss) (rows_at (with_port unit after ss)) (all_of frames) (all_of frames) is
-    (λ v. gathers_own (side_in ps v) (side_in ps v) (posted_at ss v) (posted_at (with_port unit after ss) v) (rows_at ss v) (rows_at (with_port unit after ss) v)
+    gathered (side_in ps) (side_in ps) (posts_at ss) (posts_at (with_port unit after ss)) (rows_at ss) (rows_at (with_port unit after ss)) (all_of frames) (all_of frames) is
+    (λ v. gathers_own (side_in ps v) (side_in ps v) (posts_at ss v) (posts_at (with_port unit after ss) v) (rows_at ss v) (rows_at (with_port unit after ss) v)
     (all_of frames) (side_same (side_in ps v)) (λ p. own_same v ((side_in ps v).strokes p))
     (posts_with unit v ss before after posts (changed unit v ss before after at same)) (sees_with unit v ss before after at same keeps).rows)
     (λ frame has. has) is.read
@@ -111,7 +111,7 @@ named_as P v unit e h = subst P (sym (one_unit v unit e)) h
 pub carried_own : (ss : List Station) (ps : List Place) (frames : List (List FrameRow)) (unit : UnitId) (old new : WindowValue) → window_in unit ps ≡ Some old
     → old.unit ≡ unit → KeepsWindow false (known_of old) (known_of new) → CarryAll ss ps frames → CarryAll ss (with_window unit (Some new) ps) frames
 carried_own ss ps frames unit old new at own keeps is =
-    gathered (side_in ps) (side_in qs) (posted_at ss) (posted_at ss) (rows_at ss) (rows_at ss) (all_of frames) (all_of frames) is step (λ frame has. has)
+    gathered (side_in ps) (side_in qs) (posts_at ss) (posts_at ss) (rows_at ss) (rows_at ss) (all_of frames) (all_of frames) is step (λ frame has. has)
     (all_read (side_in ps) (side_in qs) (all_of frames) (λ v. (step v).grows) is.read)
   where
     qs : List Place
@@ -120,22 +120,22 @@ carried_own ss ps frames unit old new at own keeps is =
     lays : LaysOwnAll unit (known_of old).strokes (known_of new).strokes
     lays = subst (λ (u : UnitId). LaysOwnAll u (known_of old).strokes (known_of new).strokes) own (keeps.own refl)
 
-    here : Gathers (side_in ps unit) (side_in qs unit) (posted_at ss unit) (posted_at ss unit) (rows_at ss unit) (rows_at ss unit) (all_of frames)
+    here : Gathers (side_in ps unit) (side_in qs unit) (posts_at ss unit) (posts_at ss unit) (rows_at ss unit) (rows_at ss unit) (all_of frames)
     here =
-        subst (λ (w : Side). Gathers w (side_in qs unit) (posted_at ss unit) (posted_at ss unit) (rows_at ss unit) (rows_at ss unit) (all_of frames)) (sym (side_there unit ps old at))
-        (subst (λ (w : Side). Gathers (side unit (known_of old).values (known_of old).strokes) w (posted_at ss unit) (posted_at ss unit) (rows_at ss unit) (rows_at ss unit) (all_of frames))
+        subst (λ (w : Side). Gathers w (side_in qs unit) (posts_at ss unit) (posts_at ss unit) (rows_at ss unit) (rows_at ss unit) (all_of frames)) (sym (side_there unit ps old at))
+        (subst (λ (w : Side). Gathers (side unit (known_of old).values (known_of old).strokes) w (posts_at ss unit) (posts_at ss unit) (rows_at ss unit) (rows_at ss unit) (all_of frames))
         (sym (side_there unit qs new (window_with unit (Some new) ps (has_place unit old ps at))))
-        (gathers_own (side unit (known_of old).values (known_of old).strokes) (side unit (known_of new).values (known_of new).strokes) (posted_at ss unit) (posted_at ss unit)
+        (gathers_own (side unit (known_of old).values (known_of old).strokes) (side unit (known_of new).values (known_of new).strokes) (posts_at ss unit) (posts_at ss unit)
         (rows_at ss unit) (rows_at ss unit) (all_of frames) (side_kept unit old new keeps) lays (λ post has. has) refl))
 
-    step : (v : UnitId) → Gathers (side_in ps v) (side_in qs v) (posted_at ss v) (posted_at ss v) (rows_at ss v) (rows_at ss v) (all_of frames)
+    step : (v : UnitId) → Gathers (side_in ps v) (side_in qs v) (posts_at ss v) (posts_at ss v) (rows_at ss v) (rows_at ss v) (all_of frames)
     step v =
-        by_bool (same_unit v unit) (Gathers (side_in ps v) (side_in qs v) (posted_at ss v) (posted_at ss v) (rows_at ss v) (rows_at ss v) (all_of frames))
-        (λ e. named_as (λ (u : UnitId). Gathers (side_in ps u) (side_in qs u) (posted_at ss u) (posted_at ss u) (rows_at ss u) (rows_at ss u) (all_of frames)) v unit e here)
+        by_bool (same_unit v unit) (Gathers (side_in ps v) (side_in qs v) (posts_at ss v) (posts_at ss v) (rows_at ss v) (rows_at ss v) (all_of frames))
+        (λ e. named_as (λ (u : UnitId). Gathers (side_in ps u) (side_in qs u) (posts_at ss u) (posts_at ss u) (rows_at ss u) (rows_at ss u) (all_of frames)) v unit e here)
         (λ e.
-        subst (λ (w : Side). Gathers (side_in ps v) w (posted_at ss v) (posted_at ss v) (rows_at ss v) (rows_at ss v) (all_of frames))
+        subst (λ (w : Side). Gathers (side_in ps v) w (posts_at ss v) (posts_at ss v) (rows_at ss v) (rows_at ss v) (all_of frames))
         (side_beside v ps qs (sym (window_beside unit v (Some new) ps e)))
-        (gathers_own (side_in ps v) (side_in ps v) (posted_at ss v) (posted_at ss v) (rows_at ss v) (rows_at ss v) (all_of frames) (side_same (side_in ps v))
+        (gathers_own (side_in ps v) (side_in ps v) (posts_at ss v) (posts_at ss v) (rows_at ss v) (rows_at ss v) (all_of frames) (side_same (side_in ps v))
         (λ p. own_same v ((side_in ps v).strokes p)) (λ post has. has) refl))
 
 -- a window that was read through is kept

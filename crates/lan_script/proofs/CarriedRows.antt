@@ -13,7 +13,7 @@ use Rattle.vio_trace.specs.declared.lan_rows.PostRow.{PostRow}
 use Rattle.lan_script.specs.declared.rows.LanRows.{LanRows}
 use Rattle.lan_script.specs.declared.seat.PortSeat.{PortSeat}
 use Rattle.lan_script.specs.Carried.{AreNamed, FramesAreCarried, IsCarried, IsRead}
-use Rattle.lan_script.specs.Invariant.{IsLan, all_of, posted_at, posted_in, rows_at, rows_in, side_in}
+use Rattle.lan_script.specs.Invariant.{IsLan, all_of, posts_at, posted_in, rows_at, rows_in, side_in}
 use Rattle.lan_script.specs.Rows.{deliver_rows, port_or, post_rows}
 use Rattle.lan_script.specs.RowsOf.{IsRowsOf}
 use Rattle.lan_script.specs.Units.{LanValue}
@@ -32,7 +32,7 @@ blocks_contain {X} {Row} f (x ∷ xs) = (
 )
 
 -- the rows of a seat are those of its unit's port
-posts_found : (ss : List Station) (seat : PortSeat) → HasOwn ss seat → posted_at ss seat.unit ≡ posts_by ss seat
+posts_found : (ss : List Station) (seat : PortSeat) → HasOwn ss seat → posts_at ss seat.unit ≡ posts_by ss seat
 posts_found ss seat own = ap (λ o. posted_in seat.unit o) own.is ∙ sym (ap (λ o. post_rows seat.unit (port_or seat.unit o)) own.is)
 
 delivers_found : (ss : List Station) (seat : PortSeat) → HasOwn ss seat → rows_at ss seat.unit ≡ delivers_by ss seat
@@ -41,20 +41,20 @@ delivers_found ss seat own = ap (λ o. rows_in seat.unit o) own.is ∙ sym (ap (
 -- each delivery of a seat is carried
 seat_carried : (windows : UnitId → Side) (ss : List Station) (posts : List PostRow) (frames : List FrameRow) (seat : PortSeat) → HasOwn ss seat
     → ((row : PostRow) → Contains (posts_by ss seat) row → Contains posts row) → Each (λ (row : DeliverRow). row.unit ≡ seat.unit) (delivers_by ss seat)
-    → All (IsCarried (windows seat.unit) (posted_at ss seat.unit) frames) (rows_at ss seat.unit)
+    → All (IsCarried (windows seat.unit) (posts_at ss seat.unit) frames) (rows_at ss seat.unit)
     → Each (λ row. IsCarried (windows row.unit) posts frames row) (delivers_by ss seat)
 seat_carried windows ss posts frames seat own among named carried =
-    both_each (λ (row : DeliverRow). row.unit ≡ seat.unit) (IsCarried (windows seat.unit) (posted_at ss seat.unit) frames)
+    both_each (λ (row : DeliverRow). row.unit ≡ seat.unit) (IsCarried (windows seat.unit) (posts_at ss seat.unit) frames)
     (λ row. IsCarried (windows row.unit) posts frames row) (delivers_by ss seat)
     (λ row e h. subst (λ (u : UnitId). IsCarried (windows u) posts frames row) (sym e)
-    (carried_on (windows seat.unit) (windows seat.unit) (posted_at ss seat.unit) posts frames frames row (side_same (windows seat.unit))
+    (carried_on (windows seat.unit) (windows seat.unit) (posts_at ss seat.unit) posts frames frames row (side_same (windows seat.unit))
     (λ post has. among post (subst (λ (l : List PostRow). Contains l post) (posts_found ss seat own) has)) (λ frame has. has) h))
     named
-    (each_from_all (IsCarried (windows seat.unit) (posted_at ss seat.unit) frames) (delivers_by ss seat)
-    (subst (All (IsCarried (windows seat.unit) (posted_at ss seat.unit) frames)) (delivers_found ss seat own) carried))
+    (each_from_all (IsCarried (windows seat.unit) (posts_at ss seat.unit) frames) (delivers_by ss seat)
+    (subst (All (IsCarried (windows seat.unit) (posts_at ss seat.unit) frames)) (delivers_found ss seat own) carried))
 
 all_carried : (windows : UnitId → Side) (ss : List Station) (posts : List PostRow) (frames : List FrameRow)
-    → ((unit : UnitId) → All (IsCarried (windows unit) (posted_at ss unit) frames) (rows_at ss unit)) → (seats : List PortSeat) → Each (HasOwn ss) seats
+    → ((unit : UnitId) → All (IsCarried (windows unit) (posts_at ss unit) frames) (rows_at ss unit)) → (seats : List PortSeat) → Each (HasOwn ss) seats
     → Each (λ (seat : PortSeat). (row : PostRow) → Contains (posts_by ss seat) row → Contains posts row) seats
     → Each (λ (seat : PortSeat). Each (λ (row : DeliverRow). row.unit ≡ seat.unit) (delivers_by ss seat)) seats
     → Each (λ (seat : PortSeat). Each (λ row. IsCarried (windows row.unit) posts frames row) (delivers_by ss seat)) seats

@@ -24,7 +24,7 @@ use Rattle.lan_switch.specs.Switch.{port_of, same_unit}
 use Rattle.vio_trace.specs.declared.lan_rows.FrameRow.{FrameRow}
 use Rattle.lan_script.specs.Carried.{AreReadFrom, IsRead}
 use Rattle.lan_script.specs.Frames.{frame_row_of, offered_as, piece_row_of}
-use Rattle.lan_script.specs.Invariant.{CarryAll, all_of, posted_at, posted_in, rows_at, rows_in, side_in, with_frame, with_sent}
+use Rattle.lan_script.specs.Invariant.{CarryAll, all_of, posts_at, posted_in, rows_at, rows_in, side_in, with_frame, with_sent}
 use Rattle.lan_script.specs.Seats.{seat_at}
 use Rattle.lan_script.specs.Units.{is_decided, port_key}
 use Rattle.lan_script.specs.Windows.{FoundIn, HasPlace, facts_in, named_in, window_in, with_window}
@@ -156,15 +156,15 @@ pub record IsLending (unit : UnitId) (ps ps₁ ps₂ ps₃ : List Place) (own ow
 -- the windows of all units after a send, where its offers did this at each
 lent : (unit : UnitId) (ps ps₁ ps₂ ps₃ : List Place) (own own' : WindowValue) (ss ss' : List Station) (frames : List FrameRow) → IsLending unit ps ps₁ ps₂ ps₃ own own'
     → port_of ss' unit ≡ port_of ss unit
-    → ((v : UnitId) → Gathers (side_in ps₁ v) (side_in ps₂ v) (posted_at ss v) (posted_at ss' v) (rows_at ss v) (rows_at ss' v) frames)
-    → (v : UnitId) → Gathers (side_in ps v) (side_in ps₃ v) (posted_at ss v) (posted_at ss' v) (rows_at ss v) (rows_at ss' v) frames
+    → ((v : UnitId) → Gathers (side_in ps₁ v) (side_in ps₂ v) (posts_at ss v) (posts_at ss' v) (rows_at ss v) (rows_at ss' v) frames)
+    → (v : UnitId) → Gathers (side_in ps v) (side_in ps₃ v) (posts_at ss v) (posts_at ss' v) (rows_at ss v) (rows_at ss' v) frames
 lent unit ps ps₁ ps₂ ps₃ own own' ss ss' frames h port did v =
-    by_bool (same_unit v unit) (Gathers (side_in ps v) (side_in ps₃ v) (posted_at ss v) (posted_at ss' v) (rows_at ss v) (rows_at ss' v) frames)
-    (λ e. named_as (λ (u : UnitId). Gathers (side_in ps u) (side_in ps₃ u) (posted_at ss u) (posted_at ss' u) (rows_at ss u) (rows_at ss' u) frames) v unit e here)
+    by_bool (same_unit v unit) (Gathers (side_in ps v) (side_in ps₃ v) (posts_at ss v) (posts_at ss' v) (rows_at ss v) (rows_at ss' v) frames)
+    (λ e. named_as (λ (u : UnitId). Gathers (side_in ps u) (side_in ps₃ u) (posts_at ss u) (posts_at ss' u) (rows_at ss u) (rows_at ss' u) frames) v unit e here)
     (λ e.
-    subst (λ (w : Side). Gathers w (side_in ps₃ v) (posted_at ss v) (posted_at ss' v) (rows_at ss v) (rows_at ss' v) frames)
+    subst (λ (w : Side). Gathers w (side_in ps₃ v) (posts_at ss v) (posts_at ss' v) (rows_at ss v) (rows_at ss' v) frames)
     (side_beside v ps₁ ps (ap (λ l. window_in v l) h.away ∙ window_beside unit v None ps e))
-    (subst (λ (w : Side). Gathers (side_in ps₁ v) w (posted_at ss v) (posted_at ss' v) (rows_at ss v) (rows_at ss' v) frames)
+    (subst (λ (w : Side). Gathers (side_in ps₁ v) w (posts_at ss v) (posts_at ss' v) (rows_at ss v) (rows_at ss' v) frames)
     (side_beside v ps₂ ps₃ (sym (ap (λ l. window_in v l) h.back ∙ window_beside unit v (Some own') ps₂ e))) (did v)))
   where
     there : window_in unit ps₃ ≡ Some own'
@@ -173,12 +173,12 @@ lent unit ps ps₁ ps₂ ps₃ own own' ss ss' frames h port did v =
     lays : LaysOwnAll unit (known_of own).strokes (known_of own').strokes
     lays = subst (λ (u : UnitId). LaysOwnAll u (known_of own).strokes (known_of own').strokes) h.named (h.keeps.own refl)
 
-    here : Gathers (side_in ps unit) (side_in ps₃ unit) (posted_at ss unit) (posted_at ss' unit) (rows_at ss unit) (rows_at ss' unit) frames
+    here : Gathers (side_in ps unit) (side_in ps₃ unit) (posts_at ss unit) (posts_at ss' unit) (rows_at ss unit) (rows_at ss' unit) frames
     here =
-        subst (λ (w : Side). Gathers w (side_in ps₃ unit) (posted_at ss unit) (posted_at ss' unit) (rows_at ss unit) (rows_at ss' unit) frames) (sym (side_there unit ps own h.at))
-        (subst (λ (w : Side). Gathers (side unit (known_of own).values (known_of own).strokes) w (posted_at ss unit) (posted_at ss' unit) (rows_at ss unit) (rows_at ss' unit) frames)
+        subst (λ (w : Side). Gathers w (side_in ps₃ unit) (posts_at ss unit) (posts_at ss' unit) (rows_at ss unit) (rows_at ss' unit) frames) (sym (side_there unit ps own h.at))
+        (subst (λ (w : Side). Gathers (side unit (known_of own).values (known_of own).strokes) w (posts_at ss unit) (posts_at ss' unit) (rows_at ss unit) (rows_at ss' unit) frames)
         (sym (side_there unit ps₃ own' there))
-        (gathers_own (side unit (known_of own).values (known_of own).strokes) (side unit (known_of own').values (known_of own').strokes) (posted_at ss unit) (posted_at ss' unit)
+        (gathers_own (side unit (known_of own).values (known_of own).strokes) (side unit (known_of own').values (known_of own').strokes) (posts_at ss unit) (posts_at ss' unit)
         (rows_at ss unit) (rows_at ss' unit) frames (side_kept unit own own' h.keeps) lays
         (λ post has. subst (λ o. Contains (posted_in unit o) post) (sym port) has) (ap (λ o. rows_in unit o) port)))
 
@@ -186,13 +186,13 @@ lent unit ps ps₁ ps₂ ps₃ own own' ss ss' frames h port did v =
 carried_rest : (seats : List PortSeat) (unit : UnitId) (ps ps₁ ps₂ ps₃ : List Place) (own own' : WindowValue) (ss ss' : List Station) (frames : List (List FrameRow))
     → IsLending unit ps ps₁ ps₂ ps₃ own own' → ss' ≡ ss → facts_in ps₂ ≡ facts_in ps₁ → CarryAll ss ps frames → CarryAll ss' ps₃ frames
 carried_rest seats unit ps ps₁ ps₂ ps₃ own own' ss ss' frames h same beside is =
-    gathered (side_in ps) (side_in ps₃) (posted_at ss) (posted_at ss') (rows_at ss) (rows_at ss') (all_of frames) (all_of frames) is step (λ frame has. has)
+    gathered (side_in ps) (side_in ps₃) (posts_at ss) (posts_at ss') (rows_at ss) (rows_at ss') (all_of frames) (all_of frames) is step (λ frame has. has)
     (all_read (side_in ps) (side_in ps₃) (all_of frames) (λ v. (step v).grows) is.read)
   where
     o : Offering
     o = offering (record { who = unit; mark = 0 }) [] (windows_of false facts_in FoundIn ps₁ ps₂)
 
-    step : (v : UnitId) → Gathers (side_in ps v) (side_in ps₃ v) (posted_at ss v) (posted_at ss' v) (rows_at ss v) (rows_at ss' v) (all_of frames)
+    step : (v : UnitId) → Gathers (side_in ps v) (side_in ps₃ v) (posts_at ss v) (posts_at ss' v) (rows_at ss v) (rows_at ss' v) (all_of frames)
     step v = lent unit ps ps₁ ps₂ ps₃ own own' ss ss' (all_of frames) h (ap (λ l. port_of l unit) same)
         (λ u. left_alone o ss ss' (all_of frames) u (ap (λ f. f u) beside) (ap (λ l. port_of l u) same)) v
 
@@ -203,7 +203,7 @@ carried_frame : (seats : List PortSeat) (unit : UnitId) (parts : List ℕ) (ps p
     → CarryAll ss' ps₃ (with_sent unit r r.frame seats frames)
 carried_frame seats unit parts ps ps₁ ps₂ ps₃ own own' ss ss' frames r lends sends few h is =
     subst (λ (x : Option ℕ). CarryAll ss' ps₃ (with_sent unit r x seats frames)) (sym says.0)
-    (gathered (side_in ps) (side_in ps₃) (posted_at ss) (posted_at ss') (rows_at ss) (rows_at ss') (all_of frames) (all_of (with_frame unit f seats frames)) is step
+    (gathered (side_in ps) (side_in ps₃) (posts_at ss) (posts_at ss') (rows_at ss) (rows_at ss') (all_of frames) (all_of (with_frame unit f seats frames)) is step
     (λ x has. frames_grow unit f x seats frames long has)
     (frames_all (λ x. IsRead (side_in ps₃ x.unit) x) unit f seats frames long
     (all_read (side_in ps) (side_in ps₃) (all_of frames) (λ v. (step v).grows) is.read) read))
@@ -253,13 +253,13 @@ carried_frame seats unit parts ps ps₁ ps₂ ps₃ own own' ss ss' frames r len
     own_port (inl b) = absurd (true≢false (sym (self unit) ∙ b.other))
     own_port (inr b) = b.same
 
-    did : (v : UnitId) → Gathers (side_in ps₁ v) (side_in ps₂ v) (posted_at ss v) (posted_at ss' v) (rows_at ss v) (rows_at ss' v) (all_of (with_frame unit f seats frames))
+    did : (v : UnitId) → Gathers (side_in ps₁ v) (side_in ps₂ v) (posts_at ss v) (posts_at ss' v) (rows_at ss v) (rows_at ss' v) (all_of (with_frame unit f seats frames))
     did v =
-        subst (λ x. Gathers (side_in ps₁ v) (side_in ps₂ v) (posted_at ss v) (posted_in v x) (rows_at ss v) (rows_in v x) (all_of (with_frame unit f seats frames))) (sym (port v))
+        subst (λ x. Gathers (side_in ps₁ v) (side_in ps₂ v) (posts_at ss v) (posted_in v x) (rows_at ss v) (rows_in v x) (all_of (with_frame unit f seats frames))) (sym (port v))
         (brought o ss mid r.offers.items (all_of (with_frame unit f seats frames)) v refl (named_in ps₁ v) sends.balanced.begun h.answered.out.beside has (brings_at v))
 
     step : (v : UnitId)
-        → Gathers (side_in ps v) (side_in ps₃ v) (posted_at ss v) (posted_at ss' v) (rows_at ss v) (rows_at ss' v) (all_of (with_frame unit f seats frames))
+        → Gathers (side_in ps v) (side_in ps₃ v) (posts_at ss v) (posts_at ss' v) (rows_at ss v) (rows_at ss' v) (all_of (with_frame unit f seats frames))
     step v = lent unit ps ps₁ ps₂ ps₃ own own' ss ss' (all_of (with_frame unit f seats frames)) lends (port unit ∙ own_port (brings_at unit)) did v
 
     there : window_in unit ps₃ ≡ Some own'

@@ -22,7 +22,7 @@ use Rattle.lan_switch.specs.Source.{OnlyReadThrough}
 use Rattle.lan_switch.specs.Switch.{AtPort, MadeAt, port_of}
 use Rattle.lan_script.specs.Buffers.{posted_at as buffers_at, posted_of}
 use Rattle.lan_script.specs.Correlators.{CarriesAddress, CarryAddresses, KeepsAddresses, ShowsAddress}
-use Rattle.lan_script.specs.Invariant.{IsLan, posted_at, posted_in}
+use Rattle.lan_script.specs.Invariant.{IsLan, posts_at, posted_in}
 use Rattle.lan_script.specs.PortCounts.{CountsOn, CountsStep, PortCounts, SameCounts, counts, counts_in}
 use Rattle.lan_script.specs.Replayed.{Shows}
 use Rattle.lan_script.specs.Rows.{post_rows}
@@ -54,10 +54,10 @@ rows_still unit None (Some after) grows same = absurd grows
 rows_still unit (Some before) None grows same = absurd grows
 rows_still unit (Some before) (Some after) grows same = begins_whole (post_rows unit before) (post_rows unit after) (grows.rows unit) same
 
-pub still_carry : (unit : UnitId) (old new : LanValue) → posted_at new.stations unit ≡ posted_at old.stations unit → KeepsAddresses unit old new
+pub still_carry : (unit : UnitId) (old new : LanValue) → posts_at new.stations unit ≡ posts_at old.stations unit → KeepsAddresses unit old new
 still_carry unit old new e = subst (λ (l : List PostRow). All CarriesAddress l) (sym e)
 
-pub posts_same : (unit : UnitId) (old new : LanValue) → SameCounts old new → posted_at new.stations unit ≡ posted_at old.stations unit
+pub posts_same : (unit : UnitId) (old new : LanValue) → SameCounts old new → posts_at new.stations unit ≡ posts_at old.stations unit
 posts_same unit old new same =
     rows_still unit (port_of old.stations unit) (port_of new.stations unit) (same.grows unit) (ap (λ (c : PortCounts). c.posts) (same.same unit))
 
@@ -122,7 +122,7 @@ port_carries descriptor is_shared Found window window' answer before after begun
 -- the switch made it at the port
 at_carries : (old : List Station) (unit : UnitId) (new : List Station) (P : PortValue → PortValue → Type 0)
     → ((before after : PortValue) → port_of old unit ≡ Some before → P before after → PortCarries before after) → AtPort old unit new P
-    → All CarriesAddress (posted_at old unit) → All CarriesAddress (posted_at new unit)
+    → All CarriesAddress (posts_at old unit) → All CarriesAddress (posts_at new unit)
 at_carries old unit new P has h carry =
     subst (λ (o : Option PortValue). All CarriesAddress (posted_in unit o)) (sym there)
     (kept.keeps unit (subst (λ (o : Option PortValue). All CarriesAddress (posted_in unit o)) h.was carry))
@@ -165,7 +165,7 @@ pub made_carries : (lan now mid : LanValue) (ss : List Station) (unit : UnitId) 
     → OnlyReadThrough false (known_of own) (known_of own')
     → MadeAt lan.stations unit answer ss (Adds descriptor false Found (known_of own) (known_of own') answer)
     → mid.places ≡ now.places → SameCounts now mid → NamesOwn now unit → ShowsAddress now unit descriptor → CarryAddresses now unit
-    → All CarriesAddress (posted_at ss unit)
+    → All CarriesAddress (posts_at ss unit)
 made_carries lan now mid ss unit answer descriptor Found own own' same is there here through made places counted names shows carry =
     at_carries lan.stations unit ss (Adds descriptor false Found (known_of own) (known_of own') answer)
     (λ before after was h.

@@ -14,7 +14,7 @@ use Rattle.vio_trace.specs.declared.lan_rows.FrameRow.{FrameRow}
 use Rattle.lan_script.specs.declared.seat.PortSeat.{PortSeat}
 use Rattle.lan_script.specs.Carried.{IsCarried, IsNamedPage, IsRead, named_on, stroke_in}
 use Rattle.lan_script.specs.Delivered.{drops_to, given, taken}
-use Rattle.lan_script.specs.Invariant.{CarryAll, HaveBegun, IsBalanced, IsLan, all_of, drops_by, posted_at, rows_in, sent_by, side_in}
+use Rattle.lan_script.specs.Invariant.{CarryAll, HaveBegun, IsBalanced, IsLan, all_of, drops_by, posts_at, rows_in, sent_by, side_in}
 use Rattle.lan_script.specs.Opening.{plan_of, window_of}
 use Rattle.lan_script.specs.Seats.{IsSizedSeat}
 use Rattle.lan_switch.specs.declared.station.Station.{Station}
@@ -116,8 +116,8 @@ fresh_carried seats =
     record {
       read = subst (λ (l : List FrameRow). All (λ frame. IsRead (side_in ps frame.unit) frame) l) (sym (fresh_all seats)) (All-nil (λ (frame : FrameRow). IsRead (side_in ps frame.unit) frame));
       written = λ unit.
-          subst (λ (l : List DeliverRow). All (IsCarried (side_in ps unit) (posted_at ss unit) (all_of (map (λ _. []) seats))) l) (sym (fresh_nothing seats unit).rows)
-          (All-nil (IsCarried (side_in ps unit) (posted_at ss unit) (all_of (map (λ _. []) seats))));
+          subst (λ (l : List DeliverRow). All (IsCarried (side_in ps unit) (posts_at ss unit) (all_of (map (λ _. []) seats))) l) (sym (fresh_nothing seats unit).rows)
+          (All-nil (IsCarried (side_in ps unit) (posts_at ss unit) (all_of (map (λ _. []) seats))));
       named = λ unit page.
           subst (λ (l : List DeliverRow). IsNamedPage unit ((side_in ps unit).strokes page) (named_on page l)) (sym (fresh_nothing seats unit).rows)
           (none_named unit ((side_in ps unit).strokes page) (seat_strokes unit ps seats page));

@@ -4,7 +4,7 @@ use Rattle.byteorder.specs.Endian.{big_number}
 use Rattle.vio_num.specs.declared.names.UnitId.{UnitId}
 use Rattle.vio_trace.specs.declared.lan_rows.PostRow.{PostRow}
 use Rattle.lan_buffers.specs.Buffer.{buffer_address}
-use Rattle.lan_script.specs.Invariant.{posted_at}
+use Rattle.lan_script.specs.Invariant.{posts_at}
 use Rattle.lan_script.specs.Replayed.{Shows}
 use Rattle.lan_script.specs.Units.{LanValue}
 
@@ -14,7 +14,7 @@ CarriesAddress row = row.correlator ≡ buffer_address row.descriptor
 
 -- the same of each post of a unit's port
 abbrev pub CarryAddresses : LanValue → UnitId → Type 0
-CarryAddresses lan unit = All CarriesAddress (posted_at lan.stations unit)
+CarryAddresses lan unit = All CarriesAddress (posts_at lan.stations unit)
 
 -- and what keeps that
 abbrev pub KeepsAddresses : UnitId → (old new : LanValue) → Type 0

@@ -78,8 +78,8 @@ abbrev pub posted_in : UnitId → Option PortValue → List PostRow
 posted_in unit None = []
 posted_in unit (Some port) = post_rows unit port
 
-abbrev pub posted_at : List Station → UnitId → List PostRow
-posted_at stations unit = posted_in unit (port_of stations unit)
+abbrev pub posts_at : List Station → UnitId → List PostRow
+posts_at stations unit = posted_in unit (port_of stations unit)
 
 -- a unit's window as a side of a copy
 abbrev pub side_in : List Place → UnitId → Side
@@ -94,7 +94,7 @@ pub record AreCarried (windows : UnitId → Side) (posts : UnitId → List PostR
 
 -- the same of the units of a run
 abbrev pub CarryAll : List Station → List Place → List (List FrameRow) → Type 0
-CarryAll stations places frames = AreCarried (side_in places) (posted_at stations) (rows_at stations) (all_of frames)
+CarryAll stations places frames = AreCarried (side_in places) (posts_at stations) (rows_at stations) (all_of frames)
 
 -- What LAN units are at any time.
 pub record IsLan (lan : LanValue) : Type 0 where

@@ -10,7 +10,7 @@ use Rattle.crq_session.specs.Answered.{FindsNone}
 use Rattle.tce_window.specs.PortState.{PortState}
 use Rattle.vscsi_client.specs.Ports.{Ports}
 use Rattle.vscsi_client.specs.State.{ClientState}
-use Rattle.vscsi_client.specs.Taking.{IsNext, IsOfTag, JudgesFirst, PollsNone, TakesAs, TakesEntry}
+use Rattle.vscsi_client.specs.Taking.{IsNext, IsOfTag, JudgesFirst, PollsEmpty, TakesAs, TakesEntry}
 use Rattle.vscsi_client.specs.declared.answers.Taken.{Taken}
 use Rattle.vscsi_client.specs.declared.answers.Taken.TheVariants as takens
 use Rattle.vcpu_run.specs.Answered.{AreBegun}
@@ -117,7 +117,7 @@ takes_as taken s s' old new h rest = record {
   keeps = takes_data taken s s' old new h;
 }
 
-polled_none : (shared : Bool) (e f : EndState) (number : ℕ) → PollsNone shared e number f → f.taken ≡ e.taken
+polled_none : (shared : Bool) (e f : EndState) (number : ℕ) → PollsEmpty shared e number f → f.taken ≡ e.taken
 polled_none shared e f number h = at h.none
   where
     at : FindsNone shared h.room f number ⊎ ((h.room.registered ≡ false) × (number ≡ 0) × OnlyReserves h.room f) → f.taken ≡ e.taken

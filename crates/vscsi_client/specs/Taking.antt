@@ -108,7 +108,7 @@ pub record Polls (shared : Bool) (old : EndState) (entry : Entry) (new : EndStat
   pub taken : Takes shared room new number entry
 
 -- there was none in it, or it is not registered
-pub record PollsNone (shared : Bool) (old : EndState) (number : ℕ) (new : EndState) : Type 0 where
+pub record PollsEmpty (shared : Bool) (old : EndState) (number : ℕ) (new : EndState) : Type 0 where
   pub room : EndState
   pub ready : OnlyReserves old room
   pub none : FindsNone shared room new number ⊎ ((room.registered ≡ false) × (number ≡ 0) × OnlyReserves room new)
@@ -128,7 +128,7 @@ pub record Fetches (shared : Bool) (s s' : ClientState) (old new : EndState) : T
 -- none was there
 pub record FetchesNone (shared : Bool) (s s' : ClientState) (old new : EndState) (number : ℕ) : Type 0 where
   pub none_kept : s.kept ≡ []
-  pub none : PollsNone shared old number new
+  pub none : PollsEmpty shared old number new
   pub client : s' ≡ s
 
 -- the first entry that is kept was this
