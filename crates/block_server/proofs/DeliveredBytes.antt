@@ -73,7 +73,7 @@ written_first name bytes before now some laid =
     laid ∙ ap (λ t. cond t (with_strokes before (stroke_on name 0 bytes 0 ∷ [])) before) (is_touched (length bytes) some)
 
 -- a write to page 0 and a copy from there delivered the bytes that were written
-delivered_bytes : (shared : Bool) (own own' own'' client client' : PortState) (address mark len : ℕ) (bytes : List ℕ) (name : StrokeName) (copy : CopyRecord)
+pub delivered_bytes : (shared : Bool) (own own' own'' client client' : PortState) (address mark len : ℕ) (bytes : List ℕ) (name : StrokeName) (copy : CopyRecord)
     → ((e : ℕ) → e < 34 → own''.values e ≡ (4096 * e + 3) ∷ []) → 1 ≤ len → len ≤ 4096 → length bytes ≡ len → Writes false own 0 bytes mark own'
     → LaysNone false own' own'' → (copied : Copies shared own'' client client' 0 address len name copy) → copied.lawful.bytes ≡ bytes
 delivered_bytes shared own own' own'' client client' address mark len bytes name copy first some few long wrote none copied =

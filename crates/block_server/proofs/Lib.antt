@@ -78,6 +78,7 @@ pub mod BookLaws
 pub mod Jointly
 pub mod Owing
 pub mod OwingRows
+pub mod RangeLaws
 pub mod Reaching
 pub mod OwingCalls
 pub mod OwedLaws
@@ -98,3 +99,6 @@ pub mod Reading
 pub mod Listening
 pub mod Servicing
 pub mod Talks
+pub mod Standing
+pub mod Stood
+pub mod TurnRanges

@@ -21,7 +21,7 @@ use Rattle.rdma_copy.specs.Answers.{IfCopied, OnRefused}
 use Rattle.rdma_copy.specs.Copy.{Side}
 use Rattle.rdma_copy.specs.Copies.{Copies, OnlyCopies, side_of}
 use Rattle.block_server.specs.Copied.{copies_in}
-use Rattle.block_server.specs.Makers.{AreInOrder, AreNamed, Rises, named_on, places_in, same_unit, stroke_in, versions_in, versions_on}
+use Rattle.block_server.specs.Makers.{AreNamed, Rises, VersionsAreInOrder, named_on, places_in, same_unit, stroke_in, versions_in, versions_on}
 use Rattle.block_server.proofs.Making.{IsNamedPage, page_laid, page_written}
 use Rattle.block_server.proofs.Versions.{none_last, order_copied, order_grown, versions_last, versions_none}
 
@@ -108,7 +108,7 @@ page_of : (window : Side) (copies : List CopyRecord) → AreNamed window copies 
 page_of window copies named page = record { rising = named.rising page; there = named.there page; others = named.others page }
 
 of_pages : (window : Side) (copies : List CopyRecord) → ((page : ℕ) → IsNamedPage window.unit (window.strokes page) (named_on window.unit page copies))
-    → ((entry : ℕ) → AreInOrder (length (window.values entry)) (versions_on window.unit entry copies)) → AreNamed window copies
+    → ((entry : ℕ) → VersionsAreInOrder (length (window.values entry)) (versions_on window.unit entry copies)) → AreNamed window copies
 of_pages window copies pages versions = record {
   rising = λ page. (pages page).rising;
   there = λ page. (pages page).there;
@@ -118,9 +118,9 @@ of_pages window copies pages versions = record {
 
 -- no value is gone, so versions in order stay so
 values_grown : (old new : Side) (copies : List CopyRecord) → new.unit ≡ old.unit → ((e : ℕ) → length (old.values e) ≤ length (new.values e))
-    → AreNamed old copies → (entry : ℕ) → AreInOrder (length (new.values entry)) (versions_on new.unit entry copies)
+    → AreNamed old copies → (entry : ℕ) → VersionsAreInOrder (length (new.values entry)) (versions_on new.unit entry copies)
 values_grown old new copies unit_is more named entry =
-    subst (λ u. AreInOrder (length (new.values entry)) (versions_on u entry copies)) (sym unit_is)
+    subst (λ u. VersionsAreInOrder (length (new.values entry)) (versions_on u entry copies)) (sym unit_is)
     (order_grown (length (old.values entry)) (length (new.values entry)) (versions_on old.unit entry copies) (more entry) (named.versions entry))
 
 -- values of a window that is not shared, and values that are the same
@@ -196,7 +196,7 @@ named_copied src old new from to len name copies copy made place apart more name
     unit_is : new.place.unit ≡ old.place.unit
     unit_is = ap (λ p. p.unit) place
 
-    versions : (entry : ℕ) → AreInOrder (length (new.values entry)) (versions_on new.place.unit entry (copies ++ copy ∷ []))
+    versions : (entry : ℕ) → VersionsAreInOrder (length (new.values entry)) (versions_on new.place.unit entry (copies ++ copy ∷ []))
     versions entry =
         order_copied new.values new.place.unit entry copies copy
         (none_last (length (new.values entry)) (versions_in new.place.unit entry copy.from.items)

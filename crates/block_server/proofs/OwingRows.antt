@@ -6,7 +6,7 @@ use Rattle.vio_num.specs.declared.history.Served.{Served}
 use Rattle.vio_num.specs.declared.names.UnitId.{UnitId}
 use Rattle.block_server.specs.Answering.{has_bytes}
 use Rattle.block_server.specs.Judged.{AreKept, ArePending, Books, HasGrant, Judged, gets_row}
-use Rattle.block_server.specs.Owed.{BeginsRow, HasAnswers, IsAwaited, IsCutOff, IsAccounted, IsLossAhead, MovesRow, Owing, RowState, row_state, row_states, row_in}
+use Rattle.block_server.specs.Owed.{BeginsRow, HasAnswers, IsAwaited, IsCutOff, IsLossAhead, IsRowInService, MovesRow, Owing, RowState, row_in, row_state, row_states}
 use Rattle.block_server.specs.Makers.{same_unit}
 use Rattle.block_server.specs.Records.{AnswersRow}
 use Rattle.block_server.specs.declared.request.Request.{Request}
@@ -155,7 +155,7 @@ owes_answered mid new place answer rows rows' was now serving some answers id cu
     (λ at row there lacks. found at row (got_row rows' at row (ap (λ (xs : List RowState). slice_get xs at) (sym now) ∙ there)) lacks) none
     (λ some. inl (subst (λ (n : ℕ). 1 ≤ n) current some)) has
   where
-    hand : IsAccounted mid place
+    hand : IsRowInService mid place
     hand = has.serving place serving
 
     old : (row : Served) × ((slice_get rows place ≡ Some row) × (row_state row ≡ hand.row))

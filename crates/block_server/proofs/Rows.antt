@@ -5,7 +5,8 @@ use Rattle.std.proofs.lemmas.List.{map-append}
 use Rattle.std.proofs.lemmas.Bool.{eq-eqb}
 use Rattle.vio_num.specs.declared.names.UnitId.{UnitId}
 use Rattle.vio_num.specs.declared.history.Served.{Served}
-use Rattle.block_server.specs.Answering.{OnlyRowsOf, StaysRow, answer_entry, answers_of, has_bytes, is_answered_row, same_unit}
+use Rattle.block_server.specs.Answering.{OnlyRowsOf, StaysRow, answer_entry, answers_of, has_bytes, is_answered_row}
+use Rattle.block_server.specs.Makers.{same_unit}
 
 pub stays_same : (unit : UnitId) (rows : List Served) → OnlyRowsOf unit rows rows
 stays_same unit [] = All-nil (λ row. row.unit ≡ unit)

@@ -101,7 +101,7 @@ usable_less : (values : ℕ → List ℕ) (right : Right) (n ioba len : ℕ) →
 usable_less values right n ioba len few may e first last = may e first (omega (arith, last, end_less ioba len few))
 
 -- no answer is longer
-answer_few : (n : ℕ) → is_answer_len n ≡ true → n ≤ 256
+pub answer_few : (n : ℕ) → is_answer_len n ≡ true → n ≤ 256
 answer_few n is = by (n == rsp_len) (n == rsp_code_len) (n == rsp_sense_len) (n == login_rsp_len) (n == login_rej_len) refl refl refl refl refl is
   where
     at : (m : ℕ) → (n == m) ≡ true → m ≤ 256 → n ≤ 256

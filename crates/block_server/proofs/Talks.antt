@@ -137,13 +137,13 @@ may_one client a b number (asks address bytes iu) is may all =
     subst (AreMay client) (sym is.pending) (All-append (λ request. MayWriteAnswer client request.address) a.pending (is.request ∷ []) all
     (All-cons (λ request. MayWriteAnswer client request.address) is.request [] (subst (MayWriteAnswer client) (sym is.is.address_is) may) (All-nil (λ request. MayWriteAnswer client request.address))))
 
-may_all : (client : PortState) (words : List Word) (a b : Talk) (number : ℕ) → HearsAll a number words b → All (MayWriteOver client) words → AreMay client a.pending → AreMay client b.pending
+pub may_all : (client : PortState) (words : List Word) (a b : Talk) (number : ℕ) → HearsAll a number words b → All (MayWriteOver client) words → AreMay client a.pending → AreMay client b.pending
 may_all client [] a b number is may all = subst (λ (t : Talk). AreMay client t.pending) (sym is) all
 may_all client (word ∷ words) a b number is may all =
     may_all client words is.0 b (number + 1) is.2 (All-tail (MayWriteOver client) word words may)
     (may_one client a is.0 number word is.1 (All-head (MayWriteOver client) word words may) all)
 
-may_known : (old new : PortState) (address : ℕ) → StaysKnown old new → MayWriteAnswer old address → MayWriteAnswer new address
+pub may_known : (old new : PortState) (address : ℕ) → StaysKnown old new → MayWriteAnswer old address → MayWriteAnswer new address
 may_known old new address same may =
     subst (λ (z : (ℕ → List ℕ) × ℕ). IsUsable z.0 Write z.1 address 256) (λ i. (sym same.values i, (sym same.place i).size)) may
 

@@ -172,6 +172,20 @@ fetched_whole false own own' new_own client' client address len copies copies' o
       all = made.copied.all_read;
     })
 
+-- the same of a later page
+pub fetched_table_whole : (shared : Bool) (own own' new_own client' client : PortState) (page at address len : ℕ) (copies copies' : List CopyRecord) (out : List ℕ)
+    → at ≡ 4096 * page → page < 34 → shared ≡ false → ((e : ℕ) → e < 34 → own.values e ≡ (4096 * e + 3) ∷ []) → 1 ≤ len → len ≤ 4096 → length out ≡ len
+    → MakesOne shared client' own own' address at len (own_name own 0) copies copies' → OnlyReads shared own' new_own → Reads new_own at out → client ≡ client' → IsReadWhole client address out
+fetched_table_whole true own own' new_own client' client page at address len copies copies' out begin inside alone first some few long made rest reads same = absurd (cc (alone))
+fetched_table_whole false own own' new_own client' client page at address len copies copies' out begin inside alone first some few long made rest reads same =
+    subst (λ (port : PortState). IsReadWhole port address out) (sym same) (record {
+      pieces = made.copy.from.items;
+      read = (fetches_bytes own own' new_own client' page at address len (own_name own 0) made.copy out begin inside (same_first false own own' refl made.rest first)
+          some few long refl made.rest.place made.copied rest reads).read;
+      last = made.copied.last_read;
+      all = made.copied.all_read;
+    })
+
 -- a call that copies to a later page and then reads
 pub fetches_to : (shared : Bool) (old new : SiteState) (own' client' : PortState) (page at address len : ℕ) (copies' : List CopyRecord) (out : List ℕ)
     → at ≡ 4096 * page → page < 34 → shared ≡ false → ((e : ℕ) → e < 34 → old.own.values e ≡ (4096 * e + 3) ∷ []) → 1 ≤ len → len ≤ 4096 → length out ≡ len

@@ -1,5 +1,5 @@
 -- The versions that copies name of an entry, after a copy and as values are put.
-use Rattle.std.proofs.Common.{◌≡◌, ◌≢◌, ◌∙◌, ◌<◌, ◌≤◌, ◌==◌, ◌&&◌, ℕ, ◌+◌, ◌++◌, Bool, true, false, cond, List, [], ◌∷◌, All, length, refl, sym, ap, subst, arith, append-nil}
+use Rattle.std.proofs.Common.{◌≡◌, ◌∙◌, ◌<◌, ◌≤◌, ◌==◌, ◌&&◌, ℕ, ◌+◌, ◌++◌, Bool, true, false, cond, List, [], ◌∷◌, All, length, refl, sym, ap, subst, arith, append-nil}
 use Rattle.std.proofs.lemmas.Bool.Decides.{nat_tests}
 use Rattle.std.proofs.lemmas.Grind.{flat_map-append}
 use Rattle.std.proofs.lemmas.List.Elements.{All-nil, All-cons, All-head, All-tail, All-append, All-weaker}
@@ -7,7 +7,7 @@ use Rattle.vio_num.specs.declared.names.UnitId.{UnitId}
 use Rattle.tce_window.specs.declared.piece.Piece.{Piece}
 use Rattle.tce_window.specs.Pieces.{IsLast}
 use Rattle.rdma_copy.specs.declared.copy.CopyRecord.{CopyRecord}
-use Rattle.block_server.specs.Makers.{AreInOrder, NeverFalls, is_piece_of, same_unit, versions_in, versions_of, versions_on}
+use Rattle.block_server.specs.Makers.{NeverFalls, VersionsAreInOrder, is_piece_of, same_unit, versions_in, versions_of, versions_on}
 
 -- the last version, as often as it is named
 last_falls : (count : ℕ) (versions : List ℕ) → All (λ v. v + 1 ≡ count) versions → NeverFalls versions
@@ -27,14 +27,14 @@ falls_more count (v ∷ old) new falls there last =
     )
 
 -- the last version is named behind others
-pub order_more : (count : ℕ) (old new : List ℕ) → AreInOrder count old → All (λ v. v + 1 ≡ count) new → AreInOrder count (old ++ new)
+pub order_more : (count : ℕ) (old new : List ℕ) → VersionsAreInOrder count old → All (λ v. v + 1 ≡ count) new → VersionsAreInOrder count (old ++ new)
 order_more count old new is last = record {
   rising = falls_more count old new is.rising is.there last;
   there = All-append (λ v. v < count) old new is.there (All-weaker (λ v. v + 1 ≡ count) (λ v. v < count) (λ v e. omega (arith, e)) new last);
 }
 
 -- more values were put
-pub order_grown : (count count' : ℕ) (versions : List ℕ) → count ≤ count' → AreInOrder count versions → AreInOrder count' versions
+pub order_grown : (count count' : ℕ) (versions : List ℕ) → count ≤ count' → VersionsAreInOrder count versions → VersionsAreInOrder count' versions
 order_grown count count' versions more is = record {
   rising = is.rising;
   there = All-weaker (λ v. v < count) (λ v. v < count') (λ v less. omega (arith, less, more)) versions is.there;
@@ -80,9 +80,9 @@ versions_push unit entry copies copy =
 -- A copy names last versions of this unit's window, or none.
 pub order_copied : (values : ℕ → List ℕ) (unit : UnitId) (entry : ℕ) (copies : List CopyRecord) (copy : CopyRecord)
     → All (λ v. v + 1 ≡ length (values entry)) (versions_in unit entry copy.from.items) → All (λ v. v + 1 ≡ length (values entry)) (versions_in unit entry copy.to.items)
-    → AreInOrder (length (values entry)) (versions_on unit entry copies) → AreInOrder (length (values entry)) (versions_on unit entry (copies ++ copy ∷ []))
+    → VersionsAreInOrder (length (values entry)) (versions_on unit entry copies) → VersionsAreInOrder (length (values entry)) (versions_on unit entry (copies ++ copy ∷ []))
 order_copied values unit entry copies copy from to is =
-    subst (AreInOrder (length (values entry))) (sym (versions_push unit entry copies copy))
+    subst (VersionsAreInOrder (length (values entry))) (sym (versions_push unit entry copies copy))
     (order_more (length (values entry)) (versions_on unit entry copies) (versions_of unit entry copy) is
     (All-append (λ v. v + 1 ≡ length (values entry)) (versions_in unit entry copy.from.items) (versions_in unit entry copy.to.items) from to))
 

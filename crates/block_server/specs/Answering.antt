@@ -1,5 +1,5 @@
 -- One answer for each row: which responses were put, and which rows of a unit have theirs (SRP, "SRP_RSP response").
-use Rattle.std.specs.Prelude.{◌≡◌, ◌⊎◌, ◌==◌, ◌&&◌, ◌++◌, ℕ, Bool, true, false, All, List, [], ◌∷◌, map, filter, length}
+use Rattle.std.specs.Prelude.{◌≡◌, ◌⊎◌, ◌&&◌, ◌++◌, ℕ, Bool, true, false, All, List, [], ◌∷◌, map, filter, length}
 use Rattle.vio_num.specs.declared.entry.Entry.{Entry}
 use Rattle.vio_num.specs.declared.names.UnitId.{UnitId}
 use Rattle.vio_num.specs.declared.history.Served.{Served}
@@ -7,14 +7,11 @@ use Rattle.vio_num.specs.Entry.{srp_entry}
 use Rattle.crq_ring.specs.declared.rows.PipeRow.{PipeRow}
 use Rattle.srp_iu.specs.Layout.{field}
 use Rattle.block_server.specs.Entries.{is_response}
+use Rattle.block_server.specs.Makers.{same_unit}
 
 -- the responses to commands and tasks among entries that were put, in their order
 abbrev pub responses : List PipeRow → List Entry
 responses rows = filter is_response (map (λ row. row.entry) rows)
-
--- whether two names are of one unit
-abbrev pub same_unit : UnitId → UnitId → Bool
-same_unit one other = (one.partition == other.partition) && (one.unit == other.unit)
 
 abbrev pub has_bytes : List ℕ → Bool
 has_bytes [] = false

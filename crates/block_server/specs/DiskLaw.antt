@@ -77,7 +77,7 @@ pub record HasNoStep (code : ResponseCode) (before : List (List ℕ)) (row : Ser
 
 -- The row is of a command that was refused before its disk step: its descriptors were, or the client's window told the unit
 -- that it refuses a copy of a table or of data-out.
-pub record IsTurnedDown (told : Told → Bool) (before : List (List ℕ)) (row : Served) (after : List (List ℕ)) : Type 0 where
+pub record IsOfRefusedCommand (told : Told → Bool) (before : List (List ℕ)) (row : Served) (after : List (List ℕ)) : Type 0 where
   pub command : Cmd
   pub spells : Spells row.iu (units.Cmd command)
   pub cause : TurnsDown (told_to told row.unit) command
@@ -96,7 +96,7 @@ pub record IsUnread (before : List (List ℕ)) (row : Served) (after : List (Lis
 -- The row law: what a row says belongs to what its bytes spell, to what the disk did, and to what the unit was told.
 abbrev pub ServesRowBy : (told : Told → Bool) → (before : List (List ℕ)) → Served → (after : List (List ℕ)) → Type 0
 ServesRowBy told before row after =
-    IsStepped told before row after ⊎ (IsTurnedDown told before row after ⊎ (IsOfTask before row after ⊎ IsUnread before row after))
+    IsStepped told before row after ⊎ (IsOfRefusedCommand told before row after ⊎ (IsOfTask before row after ⊎ IsUnread before row after))
 
 -- The rows in their order take the blocks before to those after.
 abbrev pub ServeBy : (told : Told → Bool) → (before : List (List ℕ)) → List Served → (after : List (List ℕ)) → Type 0

@@ -29,6 +29,7 @@ pub mod Orders
 pub mod Owed
 pub mod OwnerStrokes
 pub mod Parts
+pub mod Ranges
 pub mod Ready
 pub mod Receipts
 pub mod Records
@@ -41,6 +42,7 @@ pub mod Runs
 pub mod Serving
 pub mod SiteState
 pub mod Stage
+pub mod Standing
 pub mod Steps
 pub mod Talk
 pub mod Turns

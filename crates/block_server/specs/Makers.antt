@@ -55,7 +55,7 @@ NeverFalls [] = Unit {0}
 NeverFalls (n ∷ later) = All (λ other. n ≤ other) later × NeverFalls later
 
 -- Of an entry that had so many values, these versions are in order: each is there, and none is below one before it.
-pub record AreInOrder (count : ℕ) (versions : List ℕ) : Type 0 where
+pub record VersionsAreInOrder (count : ℕ) (versions : List ℕ) : Type 0 where
   pub rising : NeverFalls versions
   pub there : All (λ version. version < count) versions
 
@@ -70,4 +70,4 @@ pub record AreNamed (window : Side) (copies : List CopyRecord) : Type 0 where
   pub there : (page : ℕ) → All (λ place. place < stroke_count (window.strokes page)) (named_on window.unit page copies)
   pub others : (page place : ℕ) (stroke : StrokeValue) → stroke_in (window.strokes page) place ≡ Some stroke → stroke.name.who ≢ window.unit
       → Contains (named_on window.unit page copies) place
-  pub versions : (entry : ℕ) → AreInOrder (length (window.values entry)) (versions_on window.unit entry copies)
+  pub versions : (entry : ℕ) → VersionsAreInOrder (length (window.values entry)) (versions_on window.unit entry copies)

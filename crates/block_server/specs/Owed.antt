@@ -97,7 +97,7 @@ pub record IsAwaited (owing : Owing) (at : ℕ) (row : RowState) : Type 0 where
   pub why : (row_in owing.stage ≡ Some at) ⊎ IsLossAhead owing.queue
 
 -- The row in service is there, and the oldest request is a command or a task.
-pub record IsAccounted (owing : Owing) (at : ℕ) : Type 0 where
+pub record IsRowInService (owing : Owing) (at : ℕ) : Type 0 where
   pub row : RowState
   pub there : slice_get owing.rows at ≡ Some row
   pub front : Request
@@ -109,7 +109,7 @@ pub record IsAccounted (owing : Owing) (at : ℕ) : Type 0 where
 pub record HasAnswers (owing : Owing) : Type 0 where
   pub each : (at : ℕ) (row : RowState) → slice_get owing.rows at ≡ Some row → same_unit row.unit owing.id ≡ true → row.answered ≡ false
       → IsCutOff owing.id owing.grants row.session row.login ⊎ IsAwaited owing at row
-  pub serving : (at : ℕ) → row_in owing.stage ≡ Some at → IsAccounted owing at
+  pub serving : (at : ℕ) → row_in owing.stage ≡ Some at → IsRowInService owing at
   pub owed : 1 ≤ owing.current → owing.queue.place.partner_registered ≡ false → IsLossAhead owing.queue
   pub goes_on : 1 ≤ owing.current → (owing.queue.registered ≡ true) × (owing.ended ≡ false)
 

@@ -17,7 +17,9 @@ ghost use Rattle.block_server.specs.LoginAnswers.{login_put};
 ghost use Rattle.block_server.specs.Moves.{Passes};
 ghost use Rattle.block_server.specs.Owed.{AreCutOff, HasAnswers, IsUp, KeepsAnswers, KeepsAnswersBy, row_states, owing_of};
 ghost use Rattle.block_server.specs.Receipts.{LinesMore, TakesIn, is_ended, standing_of};
+ghost use Rattle.block_server.specs.Ranges.{IsAnswerRange, LaysIn, client_known};
 ghost use Rattle.block_server.specs.Ready.{MeetsFull};
+ghost use Rattle.block_server.specs.Standing.{Stands};
 ghost use Rattle.block_server.specs.Refusals.{DeniesAnswer, Explains, ExplainsBy, ExplainsOf, ExplainsOn, ExplainsSends, ledger_at, ledger_of};
 ghost use Rattle.crq_ring.specs.declared.rows.PipeRow.{PipeRow};
 ghost use Rattle.block_server.specs.Stage.{is_answered};
@@ -365,6 +367,14 @@ pub(crate) fn answer<S: Site>(
         (S.state site.old).queue (S.state site.new).queue
         records.old.grants.items records.new.grants.items outcome
         (srp_entry (length unit.old.service.answer.items) request.tag)) }
+    ensures wrote { (request : Request) → (rest : List Request) →
+        unit.old.pending.items ≡ request ∷ rest → LaysIn (IsAnswerRange request)
+        (client_known (S.state site.old)) (client_known (S.state site.new)) }
+    ensures laid { (request : Request) → (rest : List Request) → (outcome : Outcome) →
+        unit.old.service.stage ≡ Stage.Answer outcome →
+        unit.old.pending.items ≡ request ∷ rest → (S.state site.old).shared ≡ false →
+        MayWriteAnswer (S.state site.old).client request.address → OnOk result
+        (Stands (S.state site.new).client request.address unit.old.service.answer.items) }
 {
     records.make_room()?;
     unit.logins.make_room()?;
@@ -422,6 +432,14 @@ fn copy_answer<S: Site>(
         MayWriteAnswer (S.state site.old).client request.address → OnOk result
         (CopiesAnswer unit.old unit.new records.old.grants.items records.new.grants.items
         outcome) }
+    ensures wrote { (request : Request) → (rest : List Request) →
+        unit.old.pending.items ≡ request ∷ rest → LaysIn (IsAnswerRange request)
+        (client_known (S.state site.old)) (client_known (S.state site.new)) }
+    ensures laid { (request : Request) → (rest : List Request) → (outcome : Outcome) →
+        unit.old.service.stage ≡ Stage.Answer outcome →
+        unit.old.pending.items ≡ request ∷ rest → (S.state site.old).shared ≡ false →
+        MayWriteAnswer (S.state site.old).client request.address → OnOk result
+        (Stands (S.state site.new).client request.address unit.old.service.answer.items) }
 {
     let Stage::Answer(outcome) = unit.service.stage else {
         return Ok(());
@@ -470,6 +488,12 @@ fn deliver<S: Site>(unit: &mut Unit, site: &mut S, outcome: Outcome) -> Result<P
         unit.new.service.stage ≡ Stage.Entry outcome) }
     ensures answer { unit.new.service.answer ≡ unit.old.service.answer }
     ensures id { unit.new.id ≡ unit.old.id }
+    ensures wrote { (request : Request) → (rest : List Request) →
+        unit.old.pending.items ≡ request ∷ rest → LaysIn (IsAnswerRange request)
+        (client_known (S.state site.old)) (client_known (S.state site.new)) }
+    ensures laid { IfOk result (λ progress. progress ≡ Progress.Done → (request : Request) →
+        (rest : List Request) → unit.old.pending.items ≡ request ∷ rest →
+        Stands (S.state site.new).client request.address unit.old.service.answer.items) }
 {
     let Some(request) = unit.pending.front() else {
         return Ok(Progress::Busy);
@@ -525,6 +549,7 @@ fn put_answer<S: Site>(unit: &mut Unit, site: &mut S, records: &mut Records, out
         (S.state site.old).queue (S.state site.new).queue
         records.old.grants.items records.new.grants.items outcome
         (srp_entry (length unit.old.service.answer.items) request.tag) }
+    ensures client { (S.state site.new).client ≡ (S.state site.old).client }
 {
     let Some(request) = unit.pending.front() else {
         return;

@@ -10,8 +10,12 @@ ghost use Rattle.block_server.specs.Causes.{IsBad, IsNamed, RefusesBuffer, Refus
 ghost use Rattle.block_server.specs.Fetched.{DeniesTable, HasBadSum, IfDone, IfRefused, IfStill, IsRead, KnowsPieces};
 ghost use Rattle.block_server.specs.Moves.{Passes};
 ghost use Rattle.vio_num.specs.declared.names.UnitId.{UnitId};
+ghost use Rattle.block_server.specs.Ranges.{client_known};
 ghost use Rattle.block_server.specs.Heard.{TellsAll, heard_between};
 ghost use Rattle.tce_window.specs.declared.answers.Right.TheVariants.{Read};
+ghost use Rattle.tce_window.specs.PortState.{PortState};
+ghost use Rattle.block_server.specs.Standing.{stood};
+ghost use Rattle.block_server.specs.Talk.{StaysKnown};
 ghost use Rattle.block_server.specs.Stage.{has_outs, is_before_step, is_data_out, is_judged};
 ghost use Rattle.block_server.specs.Waits.{MeetsUse};
 
@@ -72,6 +76,10 @@ pub(crate) fn fetch<S: Site>(
         IsAccounted told asked (cargo_at id service.old
         (seen (Some command.now) (S.state site.old)) rows) →
         IfDone result (IsFetchedAll service.new) }
+    ensures known { client_known (S.state site.new) ≡ client_known (S.state site.old) }
+    ensures stood { (client : PortState) → StaysKnown client (S.state site.old).client →
+        (S.state site.old).shared ≡ false → KnowsPieces (stood client) command.now service.old →
+        KnowsPieces (stood client) command.now service.new }
 {
     if is_refused(service, command) {
         return Ok(Progress::Refused);
@@ -99,6 +107,8 @@ fn is_refused(service: &mut Service, command: &Cmd) -> bool
     ensures refused { result ≡ true → IsBad command.now.out ⊎ IsBad command.now.inn }
     ensures cargo { (id : UnitId) → (shown : Sight) → (rows : List Served) →
         cargo_at id service.new shown rows ≡ cargo_at id service.old shown rows }
+    ensures stood { (client : PortState) → KnowsPieces (stood client) command.now service.old →
+        KnowsPieces (stood client) command.now service.new }
 {
     if service.stage != Stage::Start {
         return false;
@@ -139,6 +149,10 @@ fn fetch_out_pieces<S: Site>(
         (seen (Some command.now) (S.state site.old)) rows) →
         IsAccounted told asked (cargo_at id service.new
         (seen (Some command.now) (S.state site.new)) rows) }
+    ensures known { client_known (S.state site.new) ≡ client_known (S.state site.old) }
+    ensures stood { (client : PortState) → StaysKnown client (S.state site.old).client →
+        (S.state site.old).shared ≡ false → KnowsPieces (stood client) command.now service.old →
+        KnowsPieces (stood client) command.now service.new }
 {
     if service.stage != Stage::OutTable {
         return Ok(Progress::Done);
@@ -178,6 +192,10 @@ fn fetch_in_pieces<S: Site>(
         (seen (Some command.now) (S.state site.old)) rows) →
         IsAccounted told asked (cargo_at id service.new
         (seen (Some command.now) (S.state site.new)) rows) }
+    ensures known { client_known (S.state site.new) ≡ client_known (S.state site.old) }
+    ensures stood { (client : PortState) → StaysKnown client (S.state site.old).client →
+        (S.state site.old).shared ≡ false → KnowsPieces (stood client) command.now service.old →
+        KnowsPieces (stood client) command.now service.new }
 {
     if service.stage != Stage::InTable {
         return Ok(Progress::Done);
@@ -217,6 +235,10 @@ fn fetch_data_out<S: Site>(service: &mut Service, site: &mut S) -> Result<Progre
     ensures all { (id : UnitId) → (told : Told → Bool) → (asked : Bool) → (shown : Sight) →
         (rows : List Served) → IsAccounted told asked (cargo_at id service.old shown rows) →
         IfDone result (IsFetchedAll service.new) }
+    ensures known { client_known (S.state site.new) ≡ client_known (S.state site.old) }
+    ensures stood { (command : Cmd) → (client : PortState) →
+        KnowsPieces (stood client) command service.old →
+        KnowsPieces (stood client) command service.new }
 {
     match service.stage {
         Stage::DataOut(cursor) => fetch_data(service, site, cursor),
@@ -244,6 +266,9 @@ fn fetch_pieces<S: Site>(
     ensures queue { (S.state site.new).queue ≡ (S.state site.old).queue }
     ensures advances { Advances (S.state site.old) (S.state site.new) }
     ensures passes { Passes (S.state site.old) (S.state site.new) }
+    ensures known { client_known (S.state site.new) ≡ client_known (S.state site.old) }
+    ensures stood { IfDone result
+        (IsNamed (stood (S.state site.new).client) buffer.now pieces.new.list.items) }
 {
     match pieces_of(buffer) {
         Ok(Pieces::Whole(list)) => {
@@ -285,6 +310,9 @@ fn fetch_table<S: Site>(
     ensures queue { (S.state site.new).queue ≡ (S.state site.old).queue }
     ensures advances { Advances (S.state site.old) (S.state site.new) }
     ensures passes { Passes (S.state site.old) (S.state site.new) }
+    ensures known { client_known (S.state site.new) ≡ client_known (S.state site.old) }
+    ensures stood { IfDone result
+        (IsRead (stood (S.state site.new).client) table total pieces.new.list.items) }
 {
     let mut buffer = [0; MAX_TABLE_LEN];
     let bytes = &mut buffer[..table.len as usize];
@@ -327,6 +355,7 @@ fn fetch_data<S: Site>(
         IsAccounted told asked (cargo_at id service.new (seen first (S.state site.new)) rows) }
     ensures all { IsPlacedAt service.old.out.list.items start →
         IfDone result (IsFetchedAll service.new) }
+    ensures known { client_known (S.state site.new) ≡ client_known (S.state site.old) }
 {
     let mut cursor = start;
     while let Some(part) = cursor.next(service.out.as_slice(), service.out.total()) {

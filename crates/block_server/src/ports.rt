@@ -9,6 +9,7 @@ ghost use Rattle.rdma_copy.specs.Copies.{OnlyCopies};
 ghost use Rattle.block_server.specs.Causes.{IsDenied};
 ghost use Rattle.block_server.specs.Copied.{FetchesNone, IsBusy, IsMade, IsRefusal, MakesOne, copies_in, own_name};
 ghost use Rattle.block_server.specs.Advances.{Advances, KeepsFreed};
+ghost use Rattle.block_server.specs.Ranges.{IsRange, LaysIn, seen_in};
 ghost use Rattle.block_server.specs.Ready.{FindsUse};
 ghost use Rattle.block_server.specs.SiteState.{AreReady, lenders, site};
 
@@ -93,6 +94,8 @@ impl<C: CrqEnd, O: OwnerPort + GuestPort, R: GuestPort> Ports<'_, '_, '_, '_, C,
             self.new.copies.now.items) }
         ensures client { R.is_shared ≡ false →
             StaysKnown (R.state self.old.client.now) (R.state self.new.client.now) }
+        ensures known { seen_in R.is_shared (R.state self.new.client.now) ≡
+            seen_in R.is_shared (R.state self.old.client.now) }
         ensures behind { PAGE_BYTES ≤ at → FetchesNone (O.state self.old.own.now).place.unit
             self.old.copies.now.items self.new.copies.now.items }
         ensures made { OnOk result (MakesOne O.is_shared (R.state self.new.client.now)
@@ -142,6 +145,9 @@ impl<C: CrqEnd, O: OwnerPort + GuestPort, R: GuestPort> Ports<'_, '_, '_, '_, C,
             self.old.copies.now.items self.new.copies.now.items) }
         ensures none { OnErr result (self.new.copies.now.items ≡ self.old.copies.now.items) }
         ensures laid { LaysNone O.is_shared (O.state self.old.own.now) (O.state self.new.own.now) }
+        ensures wrote { LaysIn (IsRange address len)
+            (seen_in R.is_shared (R.state self.old.client.now))
+            (seen_in R.is_shared (R.state self.new.client.now)) }
         ensures rest { OnlyCopies O.is_shared
             (O.state self.old.own.now) (O.state self.new.own.now) }
     {

@@ -5,7 +5,7 @@ ghost use Rattle.rdma_copy.specs.Copies.{side_of};
 ghost use Rattle.tce_window.specs.Port.{Later};
 ghost use Rattle.block_server.specs.Advances.{CopiesMore, Goes, KeepsFreed, StayNamed};
 ghost use Rattle.block_server.specs.Cargo.{AreIdle, HasRuns};
-ghost use Rattle.block_server.specs.Causes.{Told, anything};
+ghost use Rattle.block_server.specs.Causes.{Told, anything, told_to};
 ghost use Rattle.block_server.specs.Dealt.{HasDealt, KnowsSends};
 ghost use Rattle.block_server.specs.DiskLaw.{KeepsDisk, KeepsDiskBy};
 ghost use Rattle.block_server.specs.Heard.{Tells};
@@ -14,12 +14,14 @@ ghost use Rattle.block_server.specs.Judges.{AreInTime, AreUnused, HasJudged};
 ghost use Rattle.block_server.specs.Makers.{AreNamed};
 ghost use Rattle.block_server.specs.Owed.{HaveAnswers, OweNone};
 ghost use Rattle.block_server.specs.OwnerStrokes.{LaysNoneOfOwner};
+ghost use Rattle.block_server.specs.Ranges.{WritesOn, seen_in};
 ghost use Rattle.block_server.specs.Receipts.{AwaitNone, HasIntake, LinesMore, Receipt};
 ghost use Rattle.block_server.specs.Ready.{AgreesAt, AreDown, UnitWaits};
 ghost use Rattle.block_server.specs.Refusals.{AnswersInOrder, HasExplained, ExplainNone};
 ghost use Rattle.block_server.specs.Resting.{RestsAt};
 ghost use Rattle.block_server.specs.Asked.{AskInOrder, AskedAt};
 ghost use Rattle.block_server.specs.Rejecting.{LinesTellLogin};
+ghost use Rattle.block_server.specs.Standing.{LeavesOn, stood};
 ghost use Rattle.block_server.specs.Turns.{IsStill, way_of};
 ghost use Rattle.block_server.specs.SiteState.{AreReady};
 ghost use Rattle.block_server.specs.Serving.{Terms};
@@ -249,6 +251,28 @@ impl<B: Blocks> Server<B> {
             C.is_shared words → OnOk result (UnitTalksOn self.new.units.items unit u
             (reach (C.state crq.old) (R.state client.old) R.is_shared) (C.state crq.new)
             self.old.records.grants.items self.new.records.grants.items words) }
+        ensures writes { (told : Told → Bool) → Tells told (O.state own.old).place.unit
+            R.is_shared (O.state own.new) (R.state client.old) (R.state client.new)
+            self.old.copies.items self.new.copies.items → AreInOrder told
+            self.old.disk.count self.old.partition self.old.units.items self.old.records →
+            (words : List Word) → (u : UnitValue) →
+            slice_get self.old.units.items unit ≡ Some u →
+            IsTurnReady u (reach (C.state crq.old) (R.state client.old) R.is_shared)
+            C.is_shared words →
+            OnOk result (WritesOn (told_to told (O.state own.old).place.unit) u
+            (C.state crq.old) words (seen_in R.is_shared (R.state client.old))
+            (seen_in R.is_shared (R.state client.new))) }
+        ensures places { (words : List Word) → (u : UnitValue) →
+            slice_get self.old.units.items unit ≡ Some u →
+            IsTurnReady u (reach (C.state crq.old) (R.state client.old) R.is_shared)
+            C.is_shared words → OnOk result (WritesOn (stood (R.state client.old)) u
+            (C.state crq.old) words (seen_in R.is_shared (R.state client.old))
+            (seen_in R.is_shared (R.state client.new))) }
+        ensures leaves { (words : List Word) → (u : UnitValue) →
+            slice_get self.old.units.items unit ≡ Some u →
+            IsTurnReady u (reach (C.state crq.old) (R.state client.old) R.is_shared)
+            C.is_shared words → OnOk result (LeavesOn u (C.state crq.old) words
+            (C.state crq.new) (R.state client.new)) }
     {
         let id = UnitId {
             partition: self.partition,

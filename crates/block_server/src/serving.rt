@@ -1,12 +1,12 @@
 // The service of the oldest request: what it asks is done, and then it is answered.
 ghost use Rattle.block_server.specs.declared.request.Order.{Order as Asked};
-ghost use Rattle.block_server.specs.Talk.{IsServable, ServesFirst, SuitsStage, reach_of};
+ghost use Rattle.block_server.specs.Talk.{IsServable, ServesFirst, StaysKnown, SuitsStage, reach_of};
 ghost use Rattle.block_server.specs.Cargo.{AreShown, HasTag, IsAccounted, IsFetchedAll, IsSentAll, KeepsCargo, Sight, cargo_at, cargo_of, command_of, data_bytes, is_loaded, pages_of, seen};
 ghost use Rattle.srp_desc.specs.declared.pieces.TheConstants.{MAX_DATA_LEN};
 ghost use Rattle.block_server.specs.Parts.{IsPlacedAt};
 ghost use Rattle.std.specs.Prelude.{◌≡◌, ◌≢◌, ◌⊎◌, ◌∷◌, ◌<◌, ◌≤◌, ℕ, Bool, List, Option, Some, None, [], IfOk, IfSome, OnOk, false, true, length};
 ghost use Rattle.block_server.specs.Advances.{Advances};
-ghost use Rattle.block_server.specs.Causes.{RefusesData, RefusesIn, Told, told_to};
+ghost use Rattle.block_server.specs.Causes.{IsPartOf, RefusesData, RefusesIn, Told, told_to};
 ghost use Rattle.block_server.specs.Books.{books_at, books_of};
 ghost use Rattle.block_server.specs.Ends.{IsGrantable, IsRejectedFor, IsRejection};
 ghost use Rattle.block_server.specs.Fetched.{IfDone, IfRefused, KnowsPieces};
@@ -17,6 +17,9 @@ ghost use Rattle.block_server.specs.Moves.{Passes};
 ghost use Rattle.block_server.specs.Owed.{KeepsAnswersBy, MovesRow, row_states, owing_of, row_in};
 ghost use Rattle.block_server.specs.Receipts.{TakesIn, standing_of};
 ghost use Rattle.block_server.specs.Orders.{IsCauseOf, IsCodeOf};
+ghost use Rattle.block_server.specs.Standing.{HasAnswer, LeavesFirst, stood};
+ghost use Rattle.tce_window.specs.PortState.{PortState};
+ghost use Rattle.block_server.specs.Ranges.{IsDataIn, LaysIn, MayWrite, client_known};
 ghost use Rattle.block_server.specs.Records.{AddsRow};
 ghost use Rattle.block_server.specs.Responses.{GrantsLogin};
 ghost use Rattle.block_server.specs.Refusals.{ExplainsOn, ledger_of};
@@ -105,6 +108,21 @@ pub(crate) fn serve<S: Site, B: Blocks>(
         records.old.grants.items records.new.grants.items request) }
     ensures unserved { unit.old.pending.items ≡ [] →
         records.new.grants.items ≡ records.old.grants.items }
+    ensures wrote { (told : Told → Bool) →
+        TellsAll told unit.old.id (S.state site.old) (S.state site.new) →
+        IsServing (terms_of told disk.old.count) (desk_of unit.old) records.old.history.items →
+        (request : Request) → (rest : List Request) → unit.old.pending.items ≡ request ∷ rest →
+        LaysIn (MayWrite (told_to told unit.old.id) request)
+        (client_known (S.state site.old)) (client_known (S.state site.new)) }
+    ensures placed { (client : PortState) → StaysKnown client (S.state site.old).client →
+        (S.state site.old).shared ≡ false → unit.old.service.stage ≡ Stage.Start →
+        (request : Request) → (rest : List Request) → unit.old.pending.items ≡ request ∷ rest →
+        LaysIn (MayWrite (stood client) request)
+        (client_known (S.state site.old)) (client_known (S.state site.new)) }
+    ensures leaves { (request : Request) → (rest : List Request) →
+        IsServable unit.old (reach_of (S.state site.old)) S.link_shared request rest →
+        request.order ≢ Order.Logout → OnOk result (LeavesFirst unit.old.logins request
+        (S.state site.new).queue (S.state site.new).client) }
 {
     let Some(request) = unit.pending.front() else {
         return Ok(());
@@ -199,6 +217,17 @@ fn prepare<S: Site, B: Blocks>(
         (seen (command_of request.now.order) (S.state site.new)) records.new.history.items) }
     ensures suits { SuitsStage logins.now.current request.now.order service.old.stage →
         OnOk result (SuitsStage logins.now.current request.now.order service.new.stage) }
+    ensures made { HasAnswer logins.now.granted request.now service.old →
+        OnOk result (HasAnswer logins.now.granted request.now service.new) }
+    ensures wrote { (told : Told → Bool) → TellsAll told id (S.state site.old) (S.state site.new) →
+        (rest : List Request) → IsServing (terms_of told disk.old.count)
+        (desk_at id (login_state logins.now) service.old None (request.now ∷ rest))
+        records.old.history.items → LaysIn (IsDataIn (told_to told id) request.now.order)
+        (client_known (S.state site.old)) (client_known (S.state site.new)) }
+    ensures placed { (client : PortState) → StaysKnown client (S.state site.old).client →
+        (S.state site.old).shared ≡ false → service.old.stage ≡ Stage.Start →
+        LaysIn (IsDataIn (stood client) request.now.order)
+        (client_known (S.state site.old)) (client_known (S.state site.new)) }
 {
     match &request.order {
         Order::Command(command) => {
@@ -258,6 +287,8 @@ fn judge_login(
         (cargo_at id service.old shown rows) (cargo_at id service.new shown rows) }
     ensures suits { OnOk result
         (SuitsStage logins.now.current (Order.Login login.now) service.new.stage) }
+    ensures made { (request : Request) → request.order ≡ Order.Login login.now →
+        OnOk result (HasAnswer logins.now.granted request service.new) }
 {
     match login_refusal(logins.current(), login) {
         Some(reason) => service.set_answer(&login_rejected(login, reason), Outcome::Rejected),
@@ -311,6 +342,7 @@ fn add_code(
         (cargo_at id service.new shown records.new.history.items) }
     ensures suits { (current : ℕ) → SuitsStage current request.now.order service.old.stage →
         OnOk result (SuitsStage current request.now.order service.new.stage) }
+    ensures made { (granted : ℕ) → OnOk result (HasAnswer granted request.now service.new) }
 {
     let blank = records.new_row(id, session, request)?;
     let row = records.history.len();
@@ -362,6 +394,17 @@ fn serve_command<S: Site, B: Blocks>(
         (seen (command_of request.now.order) (S.state site.new)) records.new.history.items) }
     ensures suits { (current : ℕ) → SuitsStage current request.now.order service.old.stage →
         OnOk result (SuitsStage current request.now.order service.new.stage) }
+    ensures made { (granted : ℕ) → HasAnswer granted request.now service.old →
+        OnOk result (HasAnswer granted request.now service.new) }
+    ensures wrote { (told : Told → Bool) → TellsAll told id (S.state site.old) (S.state site.new) →
+        (on : LoginState) → (rest : List Request) → IsServing (terms_of told disk.old.count)
+        (desk_at id on service.old None (request.now ∷ rest))
+        records.old.history.items → LaysIn (IsDataIn (told_to told id) request.now.order)
+        (client_known (S.state site.old)) (client_known (S.state site.new)) }
+    ensures placed { (client : PortState) → StaysKnown client (S.state site.old).client →
+        (S.state site.old).shared ≡ false → service.old.stage ≡ Stage.Start →
+        LaysIn (IsDataIn (stood client) request.now.order)
+        (client_known (S.state site.old)) (client_known (S.state site.new)) }
 {
     run_step(service, id, request, command, site, records, disk)?;
     store(service, request, site)?;
@@ -411,6 +454,12 @@ fn run_step<S: Site, B: Blocks>(
         records.new.history.items) }
     ensures suits { (current : ℕ) → SuitsStage current request.now.order service.old.stage →
         OnOk result (SuitsStage current request.now.order service.new.stage) }
+    ensures made { (granted : ℕ) → HasAnswer granted request.now service.old →
+        OnOk result (HasAnswer granted request.now service.new) }
+    ensures known { client_known (S.state site.new) ≡ client_known (S.state site.old) }
+    ensures stood { (client : PortState) → StaysKnown client (S.state site.old).client →
+        (S.state site.old).shared ≡ false → KnowsPieces (stood client) command.now service.old →
+        OnOk result (KnowsPieces (stood client) command.now service.new) }
 {
     if !service.stage.is_before_step() {
         return Ok(());
@@ -452,6 +501,11 @@ fn store<S: Site>(service: &mut Service, request: &Request, site: &mut S) -> Res
     ensures suits { (current : ℕ) → (order : Asked) →
         SuitsStage current order service.old.stage →
         OnOk result (SuitsStage current order service.new.stage) }
+    ensures made { (granted : ℕ) → HasAnswer granted request.now service.old →
+        OnOk result (HasAnswer granted request.now service.new) }
+    ensures known { client_known (S.state site.new) ≡ client_known (S.state site.old) }
+    ensures stood { (command : Cmd) → (client : PortState) → KnowsPieces (stood client) command
+        service.old → OnOk result (KnowsPieces (stood client) command service.new) }
 {
     if let Stage::Given { row, reply } = service.stage {
         site.write_data(&service.given, request.tag)?;
@@ -506,6 +560,13 @@ fn hand_over<S: Site>(
         records.new.history.items) }
     ensures suits { (current : ℕ) → SuitsStage current request.now.order service.old.stage →
         OnOk result (SuitsStage current request.now.order service.new.stage) }
+    ensures made { (granted : ℕ) → HasAnswer granted request.now service.old →
+        OnOk result (HasAnswer granted request.now service.new) }
+    ensures wrote { is_data_in service.old.stage ≡ true →
+        LaysIn (IsPartOf service.old.inn.list.items)
+        (client_known (S.state site.old)) (client_known (S.state site.new)) }
+    ensures unwritten { is_data_in service.old.stage ≡ false →
+        client_known (S.state site.new) ≡ client_known (S.state site.old) }
 {
     let Stage::DataIn { row, reply, cursor } = service.stage else {
         return Ok(());
@@ -551,6 +612,11 @@ fn make_step<S: Site, B: Blocks>(
         records.new.history.items) }
     ensures suits { (current : ℕ) → SuitsStage current request.now.order service.old.stage →
         OnOk result (SuitsStage current request.now.order service.new.stage) }
+    ensures made { (granted : ℕ) → HasAnswer granted request.now service.old →
+        OnOk result (HasAnswer granted request.now service.new) }
+    ensures known { client_known (S.state site.new) ≡ client_known (S.state site.old) }
+    ensures stood { (client : PortState) → KnowsPieces (stood client) command.now service.old →
+        OnOk result (KnowsPieces (stood client) command.now service.new) }
 {
     let Stage::DataOut(_) = service.stage else {
         return Ok(());
@@ -582,6 +648,7 @@ fn read_out<S: Site>(site: &mut S, room: Vec<u8>) -> Vec<u8>
     ensures passes { Passes (S.state site.old) (S.state site.new) }
     ensures data { pages_of (S.state site.new) ≡ pages_of (S.state site.old) }
     ensures read { AreShown (data_bytes (S.state site.new).own) result.items }
+    ensures known { client_known (S.state site.new) ≡ client_known (S.state site.old) }
 {
     let mut out = room;
     site.read_data(&mut out);
@@ -618,6 +685,8 @@ fn deliver_data<S: Site>(
         IsAccounted told asked (cargo_at id service.new (seen first (S.state site.new)) rows) }
     ensures all { IsPlacedAt service.old.inn.list.items start →
         IfDone result (IsSentAll service.new) }
+    ensures wrote { LaysIn (IsPartOf service.old.inn.list.items)
+        (client_known (S.state site.old)) (client_known (S.state site.new)) }
 {
     let total = service.given.len() as u32;
     let mut cursor = start;
@@ -666,6 +735,8 @@ fn end_command(
         (cargo_at id service.new shown records.new.history.items) }
     ensures suits { (current : ℕ) → SuitsStage current request.now.order service.old.stage →
         OnOk result (SuitsStage current request.now.order service.new.stage) }
+    ensures made { (granted : ℕ) → HasAnswer granted request.now service.old →
+        OnOk result (HasAnswer granted request.now service.new) }
 {
     let Stage::DataIn { row, reply, .. } = service.stage else {
         return Ok(());
@@ -711,6 +782,8 @@ fn refuse_data(
         (cargo_at id service.new shown records.new.history.items) }
     ensures suits { (current : ℕ) → SuitsStage current request.now.order service.old.stage →
         OnOk result (SuitsStage current request.now.order service.new.stage) }
+    ensures made { (granted : ℕ) → HasAnswer granted request.now service.old →
+        OnOk result (HasAnswer granted request.now service.new) }
 {
     let Stage::DataIn { row, cursor, .. } = service.stage else {
         return Ok(());

@@ -18,6 +18,8 @@ ghost use Rattle.block_server.specs.Delivers.{DeliversOne, FetchesTo};
 ghost use Rattle.block_server.specs.Entries.{MayPut};
 ghost use Rattle.block_server.specs.LoginAnswers.{login_answers};
 ghost use Rattle.block_server.specs.Moves.{FetchesOne, Passes};
+ghost use Rattle.block_server.specs.Standing.{Stands};
+ghost use Rattle.block_server.specs.Ranges.{IsRange, LaysIn, client_known};
 ghost use Rattle.block_server.specs.SiteState.{IsDeniedBetween, SiteState, SameWindows};
 ghost use Rattle.block_server.specs.Waits.{MeetsUse};
 
@@ -187,7 +189,10 @@ pub(crate) trait Site {
         ensures passes { Passes (state self.old) (state self.new) }
         ensures fetched { OnOk result
             (FetchesTo (state self.old) (state self.new) address PAGE_BYTES out.new) }
-        ensures none { OnErr result ((state self.new).copies ≡ (state self.old).copies) };
+        ensures none { OnErr result ((state self.new).copies ≡ (state self.old).copies) }
+        ensures known { client_known (state self.new) ≡ client_known (state self.old) }
+        ensures whole { OnOk result
+            (IsReadWhole (state self.new).client address out.new) };
 
     /// Writes an information unit of 1 to 256 bytes to page 0, and copies it over this address of the client's
     /// window.
@@ -204,7 +209,10 @@ pub(crate) trait Site {
         ensures delivered { OnOk result
             (DeliversOne (state self.old) (state self.new) 0 address mark bytes.now) }
         ensures none { OnErr result ((state self.new).copies ≡ (state self.old).copies) }
-        ensures data { pages_of (state self.new) ≡ pages_of (state self.old) };
+        ensures data { pages_of (state self.new) ≡ pages_of (state self.old) }
+        ensures wrote { LaysIn (IsRange address (length bytes.now))
+            (client_known (state self.old)) (client_known (state self.new)) }
+        ensures laid { OnOk result (Stands (state self.new).client address bytes.now) };
 
     /// Copies data from this address of the client's window to a place of the data's pages.
     fn fetch_data(&mut self, at: u32, address: u64, len: u32) -> Result<(), Halt>
@@ -222,7 +230,8 @@ pub(crate) trait Site {
         ensures brought { OnOk result
             (FetchesPart (state self.old) (state self.new) address at len) }
         ensures kept { OnErr result
-            (pages_of (state self.new) ≡ pages_of (state self.old)) };
+            (pages_of (state self.new) ≡ pages_of (state self.old)) }
+        ensures known { client_known (state self.new) ≡ client_known (state self.old) };
 
     /// Reads the first bytes of the data's pages.
     fn read_data(&mut self, out: &mut [u8])
@@ -232,7 +241,8 @@ pub(crate) trait Site {
         ensures passes { Passes (state self.old) (state self.new) }
         ensures none { (state self.new).copies ≡ (state self.old).copies }
         ensures data { pages_of (state self.new) ≡ pages_of (state self.old) }
-        ensures read { AreShown (data_bytes (state self.new).own) out.new };
+        ensures read { AreShown (data_bytes (state self.new).own) out.new }
+        ensures known { client_known (state self.new) ≡ client_known (state self.old) };
 
     /// Writes the first bytes of the data's pages.
     fn write_data(&mut self, bytes: &[u8], mark: u64) -> Result<(), NoMemory>
@@ -241,7 +251,8 @@ pub(crate) trait Site {
         ensures advances { Advances (state self.old) (state self.new) }
         ensures passes { Passes (state self.old) (state self.new) }
         ensures none { (state self.new).copies ≡ (state self.old).copies }
-        ensures shown { OnOk result (AreShown (data_bytes (state self.new).own) bytes.now) };
+        ensures shown { OnOk result (AreShown (data_bytes (state self.new).own) bytes.now) }
+        ensures known { client_known (state self.new) ≡ client_known (state self.old) };
 
     /// Copies data from a place of the data's pages to this address of the client's window.
     fn deliver_data(&mut self, at: u32, address: u64, len: u32, mark: u64) -> Result<(), Halt>
@@ -258,5 +269,7 @@ pub(crate) trait Site {
         ensures none { OnErr result ((state self.new).copies ≡ (state self.old).copies) }
         ensures data { data_bytes (state self.new).own ≡ data_bytes (state self.old).own }
         ensures sent { OnOk result
-            (SendsPart (state self.old) (state self.new) at address len mark) };
+            (SendsPart (state self.old) (state self.new) at address len mark) }
+        ensures wrote { LaysIn (IsRange address len)
+            (client_known (state self.old)) (client_known (state self.new)) };
 }

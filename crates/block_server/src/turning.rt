@@ -5,7 +5,7 @@ ghost use Rattle.block_server.specs.Cargo.{IsAccounted, cargo_of};
 ghost use Rattle.std.specs.Prelude.{◌≡◌, ◌≢◌, ◌+◌, ◌<◌, ◌≤◌, None, Bool, IfOk, List, OnOk, [], false, true};
 ghost use Rattle.block_server.specs.Advances.{Advances};
 ghost use Rattle.block_server.specs.Books.{as_begun, books_at};
-ghost use Rattle.block_server.specs.Causes.{Told};
+ghost use Rattle.block_server.specs.Causes.{Told, told_to};
 ghost use Rattle.block_server.specs.Judged.{Keeps};
 ghost use Rattle.block_server.specs.Judges.{Judges};
 ghost use Rattle.block_server.specs.Serving.{AnswersOnce, AnswersOnceOn, IsServing, desk_of, held, terms_of};
@@ -13,9 +13,11 @@ ghost use Rattle.block_server.specs.Moves.{Passes};
 ghost use Rattle.block_server.specs.Owed.{KeepsAnswers, KeepsAnswersAll};
 ghost use Rattle.block_server.specs.Receipts.{TakesIn, is_ended, standing_of};
 ghost use Rattle.block_server.specs.Heard.{TellsAll};
+ghost use Rattle.block_server.specs.Ranges.{WritesOn, client_known};
 ghost use Rattle.block_server.specs.Ready.{Agrees, Idles, MeetsFull, MeetsSender};
 ghost use Rattle.block_server.specs.Refusals.{Explains, ExplainsOn, ledger_of};
 ghost use Rattle.block_server.specs.Resting.{IsResting};
+ghost use Rattle.block_server.specs.Standing.{LeavesOn, stood};
 ghost use Rattle.block_server.specs.Steps.{ComesOn, NoStage, OtherStage};
 ghost use Rattle.block_server.specs.Turns.{IfQuiet, IsQuietTurn, IsStill, under_way};
 ghost use Rattle.block_server.specs.Waits.{AsNext, IsIdle, PassesEvent, StandsOpen, StaysAgreed, StopsOpening};
@@ -86,6 +88,23 @@ pub(crate) fn turn<S: Site, B: Blocks>(
         OnOk result (TalksOn unit.old unit.new
         (reach_of (S.state site.old)) (S.state site.new).queue
         records.old.grants.items records.new.grants.items words) }
+    ensures writes { (told : Told → Bool) →
+        TellsAll told unit.old.id (S.state site.old) (S.state site.new) →
+        IsServing (terms_of told disk.old.count) (desk_of unit.old) records.old.history.items →
+        (words : List Word) →
+        IsTurnReady unit.old (reach_of (S.state site.old)) S.link_shared words →
+        OnOk result (WritesOn (told_to told unit.old.id) unit.old
+        (S.state site.old).queue words
+        (client_known (S.state site.old)) (client_known (S.state site.new))) }
+    ensures places { (words : List Word) →
+        IsTurnReady unit.old (reach_of (S.state site.old)) S.link_shared words →
+        OnOk result (WritesOn (stood (S.state site.old).client) unit.old
+        (S.state site.old).queue words
+        (client_known (S.state site.old)) (client_known (S.state site.new))) }
+    ensures leaves { (words : List Word) →
+        IsTurnReady unit.old (reach_of (S.state site.old)) S.link_shared words →
+        OnOk result (LeavesOn unit.old (S.state site.old).queue words
+        (S.state site.new).queue (S.state site.new).client) }
 {
     unit.moved = false;
     steps(unit, site, records, disk)?;
@@ -146,6 +165,23 @@ fn steps<S: Site, B: Blocks>(
         OnOk result (TalksOn unit.old unit.new
         (reach_of (S.state site.old)) (S.state site.new).queue
         records.old.grants.items records.new.grants.items words) }
+    ensures writes { (told : Told → Bool) →
+        TellsAll told unit.old.id (S.state site.old) (S.state site.new) →
+        IsServing (terms_of told disk.old.count) (desk_of unit.old) records.old.history.items →
+        (words : List Word) →
+        IsTurnReady unit.old (reach_of (S.state site.old)) S.link_shared words →
+        OnOk result (WritesOn (told_to told unit.old.id) unit.old
+        (S.state site.old).queue words
+        (client_known (S.state site.old)) (client_known (S.state site.new))) }
+    ensures places { (words : List Word) →
+        IsTurnReady unit.old (reach_of (S.state site.old)) S.link_shared words →
+        OnOk result (WritesOn (stood (S.state site.old).client) unit.old
+        (S.state site.old).queue words
+        (client_known (S.state site.old)) (client_known (S.state site.new))) }
+    ensures leaves { (words : List Word) →
+        IsTurnReady unit.old (reach_of (S.state site.old)) S.link_shared words →
+        OnOk result (LeavesOn unit.old (S.state site.old).queue words
+        (S.state site.new).queue (S.state site.new).client) }
 {
     if open_line(unit, site)? == Next::End {
         return Ok(());

@@ -17,7 +17,7 @@ use Rattle.rdma_copy.specs.Copy.{IsLawful, Side}
 use Rattle.rdma_copy.specs.declared.copy.CopyRecord.{CopyRecord}
 use Rattle.unit_region.specs.Kept.{LaysOwnAll, LaysOwnOn}
 use Rattle.block_server.specs.Advances.{IsOwnCopy}
-use Rattle.block_server.specs.Makers.{AreInOrder, AreNamed, Rises, is_piece_of, is_piece_on, named_on, places_in, same_unit, stroke_in, versions_in, versions_of, versions_on}
+use Rattle.block_server.specs.Makers.{AreNamed, Rises, VersionsAreInOrder, is_piece_of, is_piece_on, named_on, places_in, same_unit, stroke_in, versions_in, versions_of, versions_on}
 use Rattle.block_server.proofs.Versions.{order_grown}
 use Rattle.vcpu_run.specs.Named.{NamesNone}
 use Rattle.vcpu_run.proofs.Homes.{all_at}
@@ -53,7 +53,7 @@ named_still old new made unit values lays is = record {
       (is.others page place stroke
       (was_there old.unit (old.strokes page) (new.strokes page) place stroke (lays page) at (λ e. other (e ∙ sym unit)))
       (λ e. other (e ∙ sym unit)));
-  versions = λ entry. subst (λ u. AreInOrder (length (new.values entry)) (versions_on u entry made)) (sym unit)
+  versions = λ entry. subst (λ u. VersionsAreInOrder (length (new.values entry)) (versions_on u entry made)) (sym unit)
       (order_grown (length (old.values entry)) (length (new.values entry)) (versions_on old.unit entry made) (no_value_gone (old.values entry) (new.values entry) (values entry)) (is.versions entry));
 }
   where
@@ -77,7 +77,7 @@ named_beside window before more none is = record {
   rising = λ page. subst Rises (places page) (is.rising page);
   there = λ page. subst (λ places. All (λ place. place < stroke_count (window.strokes page)) places) (places page) (is.there page);
   others = λ page place stroke at other. subst (λ places. Contains places place) (places page) (is.others page place stroke at other);
-  versions = λ entry. subst (AreInOrder (length (window.values entry))) (versions entry) (is.versions entry);
+  versions = λ entry. subst (VersionsAreInOrder (length (window.values entry))) (versions entry) (is.versions entry);
 }
   where
     places : (page : ℕ) → named_on window.unit page before ≡ named_on window.unit page (before ++ more)

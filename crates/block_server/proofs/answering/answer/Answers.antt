@@ -30,6 +30,10 @@ use Rattle.block_server.proofs.ComingParts.{comes_none}
 use Rattle.block_server.specs.Steps.{NoStage}
 use Rattle.block_server.proofs.Dropping.{known_within}
 use Rattle.block_server.proofs.Servicing.{answers_first, may_later}
+use Rattle.block_server.specs.Ranges.{IsAnswerRange}
+use Rattle.block_server.proofs.RangeLaws.{known_of, lays_none, lays_on, lays_same}
+use Rattle.std.proofs.Common.{inl, refl}
+use Rattle.block_server.proofs.Standing.{stands_same}
 use Rattle.block_server.proofs.answering.answer.Goals as goal
 
 pub returns-in_err-make_room-clause-once : goal.returns-in_err-make_room-clause-once
@@ -276,4 +280,39 @@ pub returns-in_default-clause-serves : goal.returns-in_default-clause-serves
 returns-in_default-clause-serves g c = λ request rest outcome at parts link apart on may room.
     let later = may_later (g.S.Site.state c.args.site.now) (g.S.Site.state c.reserve.new.self) request.address apart c.reserve.ensures.advances may in
     let copied = c.in_ok-copy_answer.ensures.serves request rest outcome at parts (c.reserve.ensures.advances.shared ∙ apart) later in
+    absurd (c.in_default.not-Entry outcome copied.stage)
+
+pub returns-in_err-make_room-clause-wrote : goal.returns-in_err-make_room-clause-wrote
+returns-in_err-make_room-clause-wrote g c = λ request rest parts. lays_none _ _
+
+pub returns-in_err-make_room-2-clause-wrote : goal.returns-in_err-make_room-2-clause-wrote
+returns-in_err-make_room-2-clause-wrote g c = λ request rest parts. lays_none _ _
+
+pub returns-in_err-reserve-clause-wrote : goal.returns-in_err-reserve-clause-wrote
+returns-in_err-reserve-clause-wrote g c = λ request rest parts. lays_same _ _ _ (known_of (g.S.Site.state c.args.site.now) (g.S.Site.state c.reserve.new.self) c.reserve.ensures.advances.shared c.reserve.ensures.windows.client)
+
+pub returns-in_err-copy_answer-clause-wrote : goal.returns-in_err-copy_answer-clause-wrote
+returns-in_err-copy_answer-clause-wrote g c = λ request rest parts.
+    lays_on (IsAnswerRange request) _ _ _ (lays_same _ _ _ (known_of (g.S.Site.state c.args.site.now) (g.S.Site.state c.reserve.new.self) c.reserve.ensures.advances.shared c.reserve.ensures.windows.client)) (c.copy_answer.ensures.wrote request rest parts)
+
+pub returns-in_default-clause-wrote : goal.returns-in_default-clause-wrote
+returns-in_default-clause-wrote g c = λ request rest parts.
+    lays_on (IsAnswerRange request) _ _ _ (lays_same _ _ _ (known_of (g.S.Site.state c.args.site.now) (g.S.Site.state c.reserve.new.self) c.reserve.ensures.advances.shared c.reserve.ensures.windows.client)) (c.copy_answer.ensures.wrote request rest parts)
+
+pub returns-in-Entry-clause-wrote : goal.returns-in-Entry-clause-wrote
+returns-in-Entry-clause-wrote g c = λ request rest parts.
+    lays_on (IsAnswerRange request) _ _ _
+    (lays_on (IsAnswerRange request) _ _ _ (lays_same _ _ _ (known_of (g.S.Site.state c.args.site.now) (g.S.Site.state c.reserve.new.self) c.reserve.ensures.advances.shared c.reserve.ensures.windows.client)) (c.copy_answer.ensures.wrote request rest parts))
+    (lays_same _ _ _ (known_of (g.S.Site.state c.copy_answer.new.site) (g.S.Site.state c.put_answer.new.site) c.put_answer.ensures.advances.shared c.put_answer.ensures.client))
+
+pub returns-in-Entry-clause-laid : goal.returns-in-Entry-clause-laid
+returns-in-Entry-clause-laid g c = λ request rest outcome at parts apart may.
+    let later = may_later (g.S.Site.state c.args.site.now) (g.S.Site.state c.reserve.new.self) request.address apart c.reserve.ensures.advances may in
+    stands_same (g.S.Site.state c.copy_answer.new.site).client _ request request _ _ c.put_answer.ensures.client refl refl
+    (c.in_ok-copy_answer.ensures.laid request rest outcome at parts (c.reserve.ensures.advances.shared ∙ apart) later)
+
+pub returns-in_default-clause-laid : goal.returns-in_default-clause-laid
+returns-in_default-clause-laid g c = λ request rest outcome at parts apart may.
+    let later = may_later (g.S.Site.state c.args.site.now) (g.S.Site.state c.reserve.new.self) request.address apart c.reserve.ensures.advances may in
+    let copied = c.in_ok-copy_answer.ensures.serves request rest outcome (inl at) parts (c.reserve.ensures.advances.shared ∙ apart) later in
     absurd (c.in_default.not-Entry outcome copied.stage)

@@ -29,6 +29,7 @@ use Rattle.block_server.specs.declared.service.Stage.TheVariants.{Entry}
 use Rattle.block_server.proofs.Servicing.{answer_is, copied_before, is_pending, not_refused}
 use Rattle.block_server.proofs.Taking.{waiting_stands}
 use Rattle.block_server.proofs.Talking.{not_in_use}
+use Rattle.block_server.proofs.RangeLaws.{lays_none}
 use Rattle.block_server.proofs.answering.copy_answer.Goals as goal
 
 pub returns-in_default-clause-once : goal.returns-in_default-clause-once
@@ -187,4 +188,33 @@ returns-in-Busy-clause-serves g c = λ request rest outcome at parts alone may.
 
 pub returns-in-Refused-clause-serves : goal.returns-in-Refused-clause-serves
 returns-in-Refused-clause-serves g c = λ request rest outcome at parts alone may.
+    absurd (not_refused (g.S.Site.state c.args.site.now) (g.S.Site.state c.deliver.new.site) _ rest request alone parts may (c.in_ok-deliver.ensures.refused c.in-Refused.is))
+
+pub returns-in_default-clause-wrote : goal.returns-in_default-clause-wrote
+returns-in_default-clause-wrote g c = λ request rest parts. lays_none _ _
+
+pub returns-in_err-deliver-clause-wrote : goal.returns-in_err-deliver-clause-wrote
+returns-in_err-deliver-clause-wrote g c = λ request rest parts. c.deliver.ensures.wrote request rest parts
+
+pub returns-in-Done-clause-wrote : goal.returns-in-Done-clause-wrote
+returns-in-Done-clause-wrote g c = λ request rest parts. c.deliver.ensures.wrote request rest parts
+
+pub returns-in-Busy-clause-wrote : goal.returns-in-Busy-clause-wrote
+returns-in-Busy-clause-wrote g c = λ request rest parts. c.deliver.ensures.wrote request rest parts
+
+pub returns-in-Refused-clause-wrote : goal.returns-in-Refused-clause-wrote
+returns-in-Refused-clause-wrote g c = λ request rest parts. c.deliver.ensures.wrote request rest parts
+
+pub returns-in_default-clause-laid : goal.returns-in_default-clause-laid
+returns-in_default-clause-laid g c = λ request rest outcome at parts alone may. absurd (c.in_default.not-Answer outcome at)
+
+pub returns-in-Done-clause-laid : goal.returns-in-Done-clause-laid
+returns-in-Done-clause-laid g c = λ request rest outcome at parts alone may. c.in_ok-deliver.ensures.laid c.in-Done.is request rest parts
+
+pub returns-in-Busy-clause-laid : goal.returns-in-Busy-clause-laid
+returns-in-Busy-clause-laid g c = λ request rest outcome at parts alone may.
+    absurd (not_in_use (g.S.Site.state c.args.site.now) (g.S.Site.state c.deliver.new.site) alone (c.in_ok-deliver.ensures.busy c.in-Busy.is (is_pending _ rest request parts)))
+
+pub returns-in-Refused-clause-laid : goal.returns-in-Refused-clause-laid
+returns-in-Refused-clause-laid g c = λ request rest outcome at parts alone may.
     absurd (not_refused (g.S.Site.state c.args.site.now) (g.S.Site.state c.deliver.new.site) _ rest request alone parts may (c.in_ok-deliver.ensures.refused c.in-Refused.is))

@@ -25,6 +25,9 @@ use Rattle.block_server.proofs.Refusing.{fits_answer}
 use Rattle.block_server.proofs.Quieting.{still_equal}
 use Rattle.block_server.proofs.ComingParts.{comes_none, comes_stage, not_entry}
 use Rattle.block_server.specs.Steps.{ToEntry}
+use Rattle.block_server.proofs.RangeLaws.{answer_laid, lays_none}
+use Rattle.block_server.proofs.Servicing.{answer_few, first_same}
+use Rattle.block_server.proofs.Standing.{stands_same}
 use Rattle.block_server.proofs.answering.deliver.Goals as goal
 
 pub returns-in_default-clause-once : goal.returns-in_default-clause-once
@@ -121,3 +124,45 @@ returns-in-Err-Refused-clause-comes g c = comes_none ToEntry _ _ _ _ (still_equa
 
 pub returns-in-Err-Busy-clause-comes : goal.returns-in-Err-Busy-clause-comes
 returns-in-Err-Busy-clause-comes g c = comes_none ToEntry _ _ _ _ (still_equal _ _ c.deliver_unit.ensures.queue) refl refl
+
+pub returns-in_default-clause-wrote : goal.returns-in_default-clause-wrote
+returns-in_default-clause-wrote g c = λ request rest parts. lays_none _ _
+
+pub returns-in-Ok-clause-wrote : goal.returns-in-Ok-clause-wrote
+returns-in-Ok-clause-wrote g c = λ request rest parts.
+    let front = front_is _ _ c.in-Some.ensures.item.3 in
+    let same : c.deref.result.now ≡ c.args.unit.now.service.answer.items = search (rules, c.deref.ensures) in
+    let fits = subst (λ (stage : Stage). has_answer stage (length c.args.unit.now.service.answer.items) ≡ true) c.requires.stage c.args.unit.now.service.answered in
+    let few = answer_few (length c.deref.result.now) (ap (λ (bytes : List ℕ). is_answer_len (length bytes)) same ∙ fits_answer c.args.outcome _ fits) in
+    answer_laid request c.in-Some.request.now c.args.unit.now.pending.items rest front.0 (length c.deref.result.now) _ _ front.1 parts few c.deliver_unit.ensures.wrote
+
+pub returns-in-Err-Refused-clause-wrote : goal.returns-in-Err-Refused-clause-wrote
+returns-in-Err-Refused-clause-wrote g c = λ request rest parts.
+    let front = front_is _ _ c.in-Some.ensures.item.3 in
+    let same : c.deref.result.now ≡ c.args.unit.now.service.answer.items = search (rules, c.deref.ensures) in
+    let fits = subst (λ (stage : Stage). has_answer stage (length c.args.unit.now.service.answer.items) ≡ true) c.requires.stage c.args.unit.now.service.answered in
+    let few = answer_few (length c.deref.result.now) (ap (λ (bytes : List ℕ). is_answer_len (length bytes)) same ∙ fits_answer c.args.outcome _ fits) in
+    answer_laid request c.in-Some.request.now c.args.unit.now.pending.items rest front.0 (length c.deref.result.now) _ _ front.1 parts few c.deliver_unit.ensures.wrote
+
+pub returns-in-Err-Busy-clause-wrote : goal.returns-in-Err-Busy-clause-wrote
+returns-in-Err-Busy-clause-wrote g c = λ request rest parts.
+    let front = front_is _ _ c.in-Some.ensures.item.3 in
+    let same : c.deref.result.now ≡ c.args.unit.now.service.answer.items = search (rules, c.deref.ensures) in
+    let fits = subst (λ (stage : Stage). has_answer stage (length c.args.unit.now.service.answer.items) ≡ true) c.requires.stage c.args.unit.now.service.answered in
+    let few = answer_few (length c.deref.result.now) (ap (λ (bytes : List ℕ). is_answer_len (length bytes)) same ∙ fits_answer c.args.outcome _ fits) in
+    answer_laid request c.in-Some.request.now c.args.unit.now.pending.items rest front.0 (length c.deref.result.now) _ _ front.1 parts few c.deliver_unit.ensures.wrote
+
+pub returns-in-Err-NoMemory-clause-wrote : goal.returns-in-Err-NoMemory-clause-wrote
+returns-in-Err-NoMemory-clause-wrote g c = λ request rest parts.
+    let front = front_is _ _ c.in-Some.ensures.item.3 in
+    let same : c.deref.result.now ≡ c.args.unit.now.service.answer.items = search (rules, c.deref.ensures) in
+    let fits = subst (λ (stage : Stage). has_answer stage (length c.args.unit.now.service.answer.items) ≡ true) c.requires.stage c.args.unit.now.service.answered in
+    let few = answer_few (length c.deref.result.now) (ap (λ (bytes : List ℕ). is_answer_len (length bytes)) same ∙ fits_answer c.args.outcome _ fits) in
+    answer_laid request c.in-Some.request.now c.args.unit.now.pending.items rest front.0 (length c.deref.result.now) _ _ front.1 parts few c.deliver_unit.ensures.wrote
+
+pub returns-in-Ok-clause-laid : goal.returns-in-Ok-clause-laid
+returns-in-Ok-clause-laid g c = λ is request rest parts.
+    let front = front_is _ _ c.in-Some.ensures.item.3 in
+    let same : c.deref.result.now ≡ c.args.unit.now.service.answer.items = search (rules, c.deref.ensures) in
+    stands_same (g.S.Site.state c.deliver_unit.new.self).client _ c.in-Some.request.now request c.deref.result.now _ refl
+    (first_same c.args.unit.now.pending.items c.in-Some.request.now request front.0 rest front.1 parts) same c.in-Ok.ensures.laid

@@ -216,3 +216,12 @@ returns-in_default-send-clause-serves g c = λ request rest alone on room parts.
     puts_turned _ c.args.unit.now c.finish.new.unit _ _ _ c.args.outcome c.answer_entry-entry.result c.send.result _ c.in-Some.request.now request front.0 rest alone on c.send.ensures.rest
     c.in_default-send.not-Success c.in_default-send.not-Dropped c.send.ensures.closed c.send.ensures.unregistered front.1 parts (search rules)
     (record { pending = c.finish.ensures.pending; line = c.finish.ensures.line; waiting = waiting_stands _ _ c.finish.ensures.stands; stage = c.finish.ensures.stage }) c.finish.ensures.logins
+
+pub returns-in-Success-clause-client : goal.returns-in-Success-clause-client
+returns-in-Success-clause-client g c = c.send.ensures.windows.client
+
+pub returns-in-Dropped-clause-client : goal.returns-in-Dropped-clause-client
+returns-in-Dropped-clause-client g c = c.send.ensures.windows.client
+
+pub returns-in_default-send-clause-client : goal.returns-in_default-send-clause-client
+returns-in_default-send-clause-client g c = c.send.ensures.windows.client

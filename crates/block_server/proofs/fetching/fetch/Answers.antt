@@ -7,6 +7,7 @@ use Rattle.block_server.proofs.Denying.{buffer_map, tells_first, tells_next}
 use Rattle.block_server.proofs.Gathering.{bad_down, if_refused}
 use Rattle.block_server.proofs.Readying.{busy_on, if_each, uses_later}
 use Rattle.block_server.proofs.Hands.{keeps_same}
+use Rattle.block_server.proofs.Stood.{stays_after}
 use Rattle.block_server.proofs.fetching.fetch.Goals as goal
 
 pub returns-in_err-progress-2-clause-advances : goal.returns-in_err-progress-2-clause-advances
@@ -111,3 +112,31 @@ returns-clause-all g c = λ id told asked all rows hand.
     (tells_next told id (g.S.Site.state c.args.site.now) (g.S.Site.state c.fetch_out_pieces.new.site) (g.S.Site.state c.fetch_in_pieces.new.site) c.fetch_out_pieces.ensures.advances
     (tells_first told id (g.S.Site.state c.args.site.now) (g.S.Site.state c.fetch_in_pieces.new.site) (g.S.Site.state c.fetch_data_out.new.site) c.fetch_data_out.ensures.advances all)) rows
     (c.fetch_out_pieces.ensures.cargo id told asked (tells_first told id (g.S.Site.state c.args.site.now) (g.S.Site.state c.fetch_out_pieces.new.site) (g.S.Site.state c.fetch_data_out.new.site) (advances_on _ _ _ c.fetch_in_pieces.ensures.advances c.fetch_data_out.ensures.advances) all) rows (keeps_same _ _ (c.is_refused.ensures.cargo id _ rows) told asked hand)))
+
+pub returns-then-is_refused-clause-stood : goal.returns-then-is_refused-clause-stood
+returns-then-is_refused-clause-stood g c = λ client same alone known. c.is_refused.ensures.stood client known
+
+pub returns-in_err-progress-clause-stood : goal.returns-in_err-progress-clause-stood
+returns-in_err-progress-clause-stood g c = λ client same alone known. c.fetch_out_pieces.ensures.stood client same alone (c.is_refused.ensures.stood client known)
+
+pub returns-then-ne-clause-stood : goal.returns-then-ne-clause-stood
+returns-then-ne-clause-stood g c = λ client same alone known. c.fetch_out_pieces.ensures.stood client same alone (c.is_refused.ensures.stood client known)
+
+pub returns-in_err-progress-2-clause-stood : goal.returns-in_err-progress-2-clause-stood
+returns-in_err-progress-2-clause-stood g c = λ client same alone known.
+    let mid = stays_after client (g.S.Site.state c.args.site.now) (g.S.Site.state c.fetch_out_pieces.new.site) same alone c.fetch_out_pieces.ensures.advances c.fetch_out_pieces.ensures.known in
+    c.fetch_in_pieces.ensures.stood client mid (c.fetch_out_pieces.ensures.advances.shared ∙ alone) (c.fetch_out_pieces.ensures.stood client same alone (c.is_refused.ensures.stood client known))
+
+pub returns-then-ne-2-clause-stood : goal.returns-then-ne-2-clause-stood
+returns-then-ne-2-clause-stood g c = λ client same alone known.
+    let mid = stays_after client (g.S.Site.state c.args.site.now) (g.S.Site.state c.fetch_out_pieces.new.site) same alone c.fetch_out_pieces.ensures.advances c.fetch_out_pieces.ensures.known in
+    c.fetch_in_pieces.ensures.stood client mid (c.fetch_out_pieces.ensures.advances.shared ∙ alone) (c.fetch_out_pieces.ensures.stood client same alone (c.is_refused.ensures.stood client known))
+
+pub returns-clause-stood : goal.returns-clause-stood
+returns-clause-stood g c = λ client same alone known.
+    let mid = stays_after client (g.S.Site.state c.args.site.now) (g.S.Site.state c.fetch_out_pieces.new.site) same alone c.fetch_out_pieces.ensures.advances c.fetch_out_pieces.ensures.known in
+    c.fetch_data_out.ensures.stood c.args.command.now client
+    (c.fetch_in_pieces.ensures.stood client mid (c.fetch_out_pieces.ensures.advances.shared ∙ alone) (c.fetch_out_pieces.ensures.stood client same alone (c.is_refused.ensures.stood client known)))
+
+pub returns-clause-known : goal.returns-clause-known
+returns-clause-known g c = c.fetch_data_out.ensures.known ∙ c.fetch_in_pieces.ensures.known ∙ c.fetch_out_pieces.ensures.known

@@ -32,6 +32,7 @@ loop-part-preserved g c = record {
   out = c.loop-part.invariant.out;
   inn = c.loop-part.invariant.inn;
   queue = c.fetch_data.ensures.queue ∙ c.loop-part.invariant.queue;
+  known = c.fetch_data.ensures.known ∙ c.loop-part.invariant.known;
   passes = c.fetch_data.ensures.passes ∙ c.loop-part.invariant.passes;
   placed = λ placed.
       subst (λ (list : List Desc). IsPlacedAt list c.loop-part.cursor → IsPlacedAt list c.in-Some.part.end)

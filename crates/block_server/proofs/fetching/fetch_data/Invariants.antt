@@ -10,6 +10,7 @@ use Rattle.std.proofs.Common.{◌≡◌, ◌-◌}
 use Rattle.block_server.specs.Advances.{Advances}
 use Rattle.block_server.specs.Moves.{Passes}
 use Rattle.block_server.specs.declared.service.Stage.TheVariants.{DataOut}
+use Rattle.block_server.specs.Ranges.{client_known}
 use Rattle.block_server.proofs.fetching.fetch_data.Given as goal
 
 abbrev pub invariant-loop-part : goal.invariant-loop-part
@@ -19,6 +20,7 @@ invariant-loop-part g l = record {
   out : l.service.out ≡ l.fn.service.out;
   inn : l.service.inn ≡ l.fn.service.inn;
   queue : (g.S.Site.state l.site).queue ≡ (g.S.Site.state l.fn.site).queue;
+  known : client_known (g.S.Site.state l.site) ≡ client_known (g.S.Site.state l.fn.site);
   passes : Passes (g.S.Site.state l.fn.site) (g.S.Site.state l.site);
   placed : IsPlacedAt l.fn.service.out.list.items l.fn.start → IsPlacedAt l.fn.service.out.list.items l.cursor;
   cargo : (id : UnitId) (told : Told → Bool) (asked : Bool) → TellsAll told id (g.S.Site.state l.fn.site) (g.S.Site.state l.site) → (rows : List Served) (first : Option Cmd)

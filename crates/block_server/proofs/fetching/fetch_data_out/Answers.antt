@@ -7,6 +7,8 @@ use Rattle.block_server.specs.declared.service.Stage.{Stage}
 use Rattle.block_server.proofs.Denying.{data_map}
 use Rattle.block_server.proofs.Gathering.{if_refused}
 use Rattle.block_server.proofs.Sendings.{out_placed}
+use Rattle.block_server.specs.Standing.{stood}
+use Rattle.block_server.proofs.Gathering.{gathers_moved}
 use Rattle.block_server.proofs.fetching.fetch_data_out.Goals as goal
 
 pub returns-in-DataOut-clause-refused : goal.returns-in-DataOut-clause-refused
@@ -24,3 +26,7 @@ returns-in-DataOut-clause-refused g c = λ command told id all known.
 pub returns-in-DataOut-clause-all : goal.returns-in-DataOut-clause-all
 returns-in-DataOut-clause-all g c = λ id told asked shown rows hand.
     c.fetch_data.ensures.all (out_placed told asked id c.args.service.now shown rows c.in-DataOut.cursor c.in-DataOut.is hand)
+
+pub returns-in-DataOut-clause-stood : goal.returns-in-DataOut-clause-stood
+returns-in-DataOut-clause-stood g c = λ command client known.
+    gathers_moved (stood client) command _ _ _ _ _ _ c.in-DataOut.cursor c.in-DataOut.is c.fetch_data.ensures.stage c.fetch_data.ensures.out c.fetch_data.ensures.inn known

@@ -7,6 +7,7 @@ use Rattle.srp_desc.specs.declared.pieces.Pieces.TheVariants.{Fetch, Whole}
 use Rattle.block_server.specs.Heard.{heard_between}
 use Rattle.block_server.proofs.Gathering.{buffer_refused, named_whole, read_done}
 use Rattle.block_server.proofs.Named.{whole_sum}
+use Rattle.block_server.specs.Standing.{stood}
 use Rattle.block_server.proofs.fetching.fetch_pieces.Goals as goal
 
 pub set-requires-clause-summed : goal.set-requires-clause-summed
@@ -46,3 +47,16 @@ returns-in-Ok-Whole-clause-numbered g c =
     let given : c.in-Ok-Whole.field-0 ≡ Whole c.in-Ok-Whole.list = c.in-Ok-Whole.field-0-is in
     subst (λ (list : List Desc). NamesNext (g.S.Site.state c.args.site.now) (g.S.Site.state c.args.site.now) c.args.buffer.now list) (sym c.set.ensures.list)
     (next_whole (g.S.Site.state c.args.site.now) c.args.buffer.now c.in-Ok-Whole.field-0 c.in-Ok-Whole.list c.in-Ok-Whole.ensures.ok c.in-Ok-Whole.ensures.tables given)
+
+pub returns-in-Ok-Fetch-clause-stood : goal.returns-in-Ok-Fetch-clause-stood
+returns-in-Ok-Fetch-clause-stood g c =
+    let given : c.in-Ok-Fetch.field-0 ≡ Fetch c.in-Ok-Fetch.table c.in-Ok-Fetch.total = c.in-Ok-Fetch.field-0-is in
+    read_done (stood (g.S.Site.state c.fetch_table.new.site).client) c.args.buffer.now c.in-Ok-Fetch.field-0
+    c.in-Ok-Fetch.table c.in-Ok-Fetch.total _ c.fetch_table.result c.in-Ok-Fetch.ensures.ok c.in-Ok-Fetch.ensures.tables given c.fetched_table_is_read.ensures
+    c.fetch_table.ensures.stood
+
+pub returns-in-Ok-Whole-clause-stood : goal.returns-in-Ok-Whole-clause-stood
+returns-in-Ok-Whole-clause-stood g c =
+    let given : c.in-Ok-Whole.field-0 ≡ Whole c.in-Ok-Whole.list = c.in-Ok-Whole.field-0-is in
+    subst (λ (list : List Desc). IsNamed (stood (g.S.Site.state c.args.site.now).client) c.args.buffer.now list) (sym c.set.ensures.list)
+    (named_whole _ c.args.buffer.now c.in-Ok-Whole.field-0 c.in-Ok-Whole.list c.in-Ok-Whole.ensures.ok c.in-Ok-Whole.ensures.tables given)

@@ -34,3 +34,11 @@ returns-in-Err-Busy-clause-still g c = same_total _ _ _ _ c.fetch_table.ensures.
 
 pub returns-in-Err-NoMemory-clause-still : goal.returns-in-Err-NoMemory-clause-still
 returns-in-Err-NoMemory-clause-still g c = same_total _ _ _ _ c.fetch_table.ensures.advances.own_place c.in-Err-NoMemory.ensures.none
+
+pub returns-in-Ok-read_table-clause-stood : goal.returns-in-Ok-read_table-clause-stood
+returns-in-Ok-read_table-clause-stood g c = record {
+  bytes = c.fetch_table.new.out;
+  full = search rules;
+  brought = c.in-Ok.ensures.whole;
+  sums = search rules;
+}

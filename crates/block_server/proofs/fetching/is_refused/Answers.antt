@@ -8,3 +8,6 @@ pub returns-in-Ok-clause-cargo : goal.returns-in-Ok-clause-cargo
 returns-in-Ok-clause-cargo c = λ id shown rows.
     let at : c.args.service.now.stage ≡ Start = search rules in
     none_seen _ _ _ _ _ _ _ refl (ap is_moving at) refl refl
+
+pub returns-in-Ok-clause-stood : goal.returns-in-Ok-clause-stood
+returns-in-Ok-clause-stood c = λ client known. tt

@@ -19,6 +19,7 @@ use Rattle.block_server.proofs.Cargoes.{blank_keeps, shown_same}
 use Rattle.block_server.proofs.Hands.{keeps_same}
 use Rattle.block_server.proofs.Sendings.{same_service}
 use Rattle.block_server.proofs.Servicing.{coded_gets, served_suits}
+use Rattle.block_server.proofs.Standing.{answer_at_now, answers_tag}
 use Rattle.block_server.proofs.serving.add_code.Goals as goal
 
 pub returns-in_err-blank-clause-once : goal.returns-in_err-blank-clause-once
@@ -86,3 +87,9 @@ returns-clause-cargo c = λ shown before.
 
 pub returns-clause-suits : goal.returns-clause-suits
 returns-clause-suits c = λ current old. served_suits current _ _ _ (coded_gets _ _ c.requires.code) c.in_ok-set_answer.ensures.stage
+
+pub returns-clause-made : goal.returns-clause-made
+returns-clause-made c = λ granted.
+    let same : c.deref.result.now ≡ c.with_code.result.items = search (rules, c.deref.ensures) in
+    answer_at_now granted c.args.request.now _ _ _ c.with_code.result.items c.in_ok-set_answer.ensures.stage (c.in_ok-set_answer.ensures.answer ∙ same)
+    (answers_tag (HasCode c.args.request.now.tag c.args.code) _ (λ r is. (is.tag_is, is.delta)) c.with_code.result.items c.with_code.ensures.answer)

@@ -21,6 +21,9 @@ use Rattle.block_server.proofs.Sendings.{all_sent, part_moved}
 use Rattle.block_server.specs.Cargo.{IsAccounted}
 use Rattle.block_server.specs.Parts.{IsPlacedAt}
 use Rattle.block_server.proofs.Denying.{tells_first, tells_next}
+use Rattle.block_server.specs.Causes.{IsPartOf}
+use Rattle.block_server.specs.Ranges.{client_known}
+use Rattle.block_server.proofs.RangeLaws.{one_part, part_laid}
 use Rattle.block_server.proofs.serving.deliver_data.Goals as goal
 
 pub returns-in-Err-Refused-clause-advances : goal.returns-in-Err-Refused-clause-advances
@@ -42,6 +45,10 @@ loop-part-preserved g c = record {
   given = c.loop-part.invariant.given;
   queue = c.deliver_data.ensures.queue ∙ c.loop-part.invariant.queue;
   passes = c.deliver_data.ensures.passes ∙ c.loop-part.invariant.passes;
+  wrote = part_laid (IsPartOf c.args.service.now.inn.list.items) (client_known (g.S.Site.state c.args.site.now)) (client_known (g.S.Site.state c.loop-part.site)) (client_known (g.S.Site.state c.deliver_data.new.self))
+      c.in-Some-address.address c.in-Some.part.len
+      (one_part c.as_slice.result.now c.args.service.now.inn.list.items c.in-Some.part.address c.in-Some-address.address c.in-Some.part.len c.in-Some-address.is
+      (c.as_slice.ensures ∙ ap (λ (pieces : DataPieces). pieces.list.items) c.loop-part.invariant.inn) c.in-Some.ensures.piece) c.loop-part.invariant.wrote c.deliver_data.ensures.wrote;
   placed = λ placed.
       subst (λ (list : List Desc). IsPlacedAt list c.loop-part.cursor → IsPlacedAt list c.in-Some.part.end)
       (c.as_slice.ensures ∙ ap (λ (pieces : DataPieces). pieces.list.items) c.loop-part.invariant.inn) c.in-Some.ensures.placed (c.loop-part.invariant.placed placed);
@@ -97,3 +104,24 @@ returns-clause-all g c = λ placed.
     (c.loop-part.invariant.placed placed) in
     all_sent c.loop-part.service c.args.row c.args.reply c.loop-part.cursor c.loop-part.invariant.stage
     (omega (arith, c.in_default.ensures.all at refl, ap sum_of c.as_slice.ensures, ap length c.loop-part.invariant.given, c.len-total.ensures))
+
+pub returns-in-Err-Refused-clause-wrote : goal.returns-in-Err-Refused-clause-wrote
+returns-in-Err-Refused-clause-wrote g c =
+    part_laid (IsPartOf c.args.service.now.inn.list.items) (client_known (g.S.Site.state c.args.site.now)) (client_known (g.S.Site.state c.loop-part.site)) (client_known (g.S.Site.state c.deliver_data.new.self))
+    c.in-Some-address.address c.in-Some.part.len
+    (one_part c.as_slice.result.now c.args.service.now.inn.list.items c.in-Some.part.address c.in-Some-address.address c.in-Some.part.len c.in-Some-address.is
+    (c.as_slice.ensures ∙ ap (λ (pieces : DataPieces). pieces.list.items) c.loop-part.invariant.inn) c.in-Some.ensures.piece) c.loop-part.invariant.wrote c.deliver_data.ensures.wrote
+
+pub returns-in-Err-Busy-clause-wrote : goal.returns-in-Err-Busy-clause-wrote
+returns-in-Err-Busy-clause-wrote g c =
+    part_laid (IsPartOf c.args.service.now.inn.list.items) (client_known (g.S.Site.state c.args.site.now)) (client_known (g.S.Site.state c.loop-part.site)) (client_known (g.S.Site.state c.deliver_data.new.self))
+    c.in-Some-address.address c.in-Some.part.len
+    (one_part c.as_slice.result.now c.args.service.now.inn.list.items c.in-Some.part.address c.in-Some-address.address c.in-Some.part.len c.in-Some-address.is
+    (c.as_slice.ensures ∙ ap (λ (pieces : DataPieces). pieces.list.items) c.loop-part.invariant.inn) c.in-Some.ensures.piece) c.loop-part.invariant.wrote c.deliver_data.ensures.wrote
+
+pub returns-in-Err-NoMemory-clause-wrote : goal.returns-in-Err-NoMemory-clause-wrote
+returns-in-Err-NoMemory-clause-wrote g c =
+    part_laid (IsPartOf c.args.service.now.inn.list.items) (client_known (g.S.Site.state c.args.site.now)) (client_known (g.S.Site.state c.loop-part.site)) (client_known (g.S.Site.state c.deliver_data.new.self))
+    c.in-Some-address.address c.in-Some.part.len
+    (one_part c.as_slice.result.now c.args.service.now.inn.list.items c.in-Some.part.address c.in-Some-address.address c.in-Some.part.len c.in-Some-address.is
+    (c.as_slice.ensures ∙ ap (λ (pieces : DataPieces). pieces.list.items) c.loop-part.invariant.inn) c.in-Some.ensures.piece) c.loop-part.invariant.wrote c.deliver_data.ensures.wrote

@@ -4,7 +4,8 @@ use Rattle.std.proofs.Common.{Bool, List}
 use Rattle.vio_num.specs.declared.history.Served.{Served}
 use Rattle.vio_num.specs.declared.names.UnitId.{UnitId}
 use Rattle.block_server.specs.Cargo.{HasTag, IsAccounted, cargo_at, seen}
-use Rattle.block_server.specs.Causes.{Told}
+use Rattle.block_server.specs.Causes.{IsPartOf, Told}
+use Rattle.block_server.specs.Ranges.{LaysIn, client_known}
 use Rattle.block_server.specs.Heard.{TellsAll}
 use Rattle.block_server.specs.Parts.{IsPlacedAt}
 use Rattle.std.proofs.Common.{◌≡◌, ◌-◌}
@@ -23,6 +24,7 @@ invariant-loop-part g l = record {
   given : l.service.given.items ≡ l.fn.service.given.items;
   queue : (g.S.Site.state l.site).queue ≡ (g.S.Site.state l.fn.site).queue;
   passes : Passes (g.S.Site.state l.fn.site) (g.S.Site.state l.site);
+  wrote : LaysIn (IsPartOf l.fn.service.inn.list.items) (client_known (g.S.Site.state l.fn.site)) (client_known (g.S.Site.state l.site));
   placed : IsPlacedAt l.fn.service.inn.list.items l.fn.start → IsPlacedAt l.fn.service.inn.list.items l.cursor;
   cargo : (id : UnitId) (told : Told → Bool) (asked : Bool) → TellsAll told id (g.S.Site.state l.fn.site) (g.S.Site.state l.site) → (rows : List Served) → HasTag rows l.row l.tag → (first : Option Cmd)
       → IsAccounted told asked (cargo_at id l.fn.service (seen first (g.S.Site.state l.fn.site)) rows) → IsAccounted told asked (cargo_at id l.service (seen first (g.S.Site.state l.site)) rows);

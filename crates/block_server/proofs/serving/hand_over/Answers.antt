@@ -17,6 +17,9 @@ use Rattle.block_server.specs.Serving.{terms_of}
 use Rattle.block_server.proofs.ComingStages.{other_entry}
 use Rattle.std.proofs.Common.{subst, sym}
 use Rattle.block_server.specs.Talk.{SuitsStage}
+use Rattle.block_server.proofs.RangeLaws.{not_data_in}
+use Rattle.block_server.specs.Standing.{HasAnswerAt}
+use Rattle.block_server.specs.declared.service.Stage.{Stage}
 use Rattle.block_server.proofs.serving.hand_over.Goals as goal
 
 pub returns-in_default-clause-once : goal.returns-in_default-clause-once
@@ -91,3 +94,20 @@ returns-in_default-clause-suits g c = λ current old. old
 
 pub returns-clause-suits : goal.returns-clause-suits
 returns-clause-suits g c = λ current old. c.end_command.ensures.suits current (subst (SuitsStage current c.args.request.now.order) (sym c.deliver_data.ensures.stage.1) tt)
+
+pub returns-in_default-clause-wrote : goal.returns-in_default-clause-wrote
+returns-in_default-clause-wrote g c = λ is. absurd (not_data_in c.args.service.now.stage (λ row reply cursor at. c.in_default.not-DataIn row reply cursor at) is)
+
+pub returns-in_err-progress-clause-unwritten : goal.returns-in_err-progress-clause-unwritten
+returns-in_err-progress-clause-unwritten g c = λ isnt. absurd (cc (isnt, ap is_data_in c.in-DataIn.is))
+
+pub returns-clause-unwritten : goal.returns-clause-unwritten
+returns-clause-unwritten g c = λ isnt. absurd (cc (isnt, ap is_data_in c.in-DataIn.is))
+
+pub returns-in_default-clause-made : goal.returns-in_default-clause-made
+returns-in_default-clause-made g c = λ granted old. old
+
+pub returns-clause-made : goal.returns-clause-made
+returns-clause-made g c = λ granted old.
+    c.end_command.ensures.made granted
+    (subst (λ (stage : Stage). HasAnswerAt granted c.args.request.now stage c.deliver_data.new.service.answer.items) (sym c.deliver_data.ensures.stage.1) tt)

@@ -24,6 +24,7 @@ use Rattle.block_server.proofs.Makings.{made_given}
 use Rattle.block_server.proofs.Sendings.{same_out}
 use Rattle.block_server.proofs.Hands.{keeps_same}
 use Rattle.std.specs.Prelude.{slice_index}
+use Rattle.block_server.specs.Standing.{stood}
 use Rattle.block_server.proofs.serving.make_step.Goals as goal
 
 pub returns-in_default-clause-once : goal.returns-in_default-clause-once
@@ -163,3 +164,18 @@ returns-in_default-clause-suits g c = λ current old. old
 
 pub returns-clause-suits : goal.returns-clause-suits
 returns-clause-suits g c = λ current old. tt
+
+pub returns-in_default-clause-made : goal.returns-in_default-clause-made
+returns-in_default-clause-made g c = λ granted old. old
+
+pub returns-clause-made : goal.returns-clause-made
+returns-clause-made g c = λ granted old. tt
+
+pub returns-in_default-clause-stood : goal.returns-in_default-clause-stood
+returns-in_default-clause-stood g c = λ client known. known
+
+pub returns-clause-stood : goal.returns-clause-stood
+returns-clause-stood g c = λ client known.
+    let both : HasBoth (stood client) c.args.command.now c.args.service.now.out.list.items c.args.service.now.inn.list.items =
+    subst (λ (stage : Stage). Gathers (stood client) c.args.command.now stage c.args.service.now.out.list.items c.args.service.now.inn.list.items) c.in-DataOut.is known in
+    subst (λ (inn : DataPieces). IsNamed (stood client) c.args.command.now.inn inn.list.items) (sym (c.keep.ensures.inn ∙ c.make_room.ensures.inn)) both.in_named

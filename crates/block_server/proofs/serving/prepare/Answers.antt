@@ -16,6 +16,7 @@ use Rattle.block_server.specs.Granting.{login_state}
 use Rattle.block_server.proofs.ComingStages.{unanswered_entry}
 use Rattle.std.proofs.Common.{refl}
 use Rattle.block_server.proofs.Servicing.{login_suits}
+use Rattle.block_server.proofs.RangeLaws.{lays_none}
 use Rattle.block_server.proofs.serving.prepare.Goals as goal
 
 pub returns-in-Command-clause-once : goal.returns-in-Command-clause-once
@@ -165,3 +166,57 @@ returns-in-Logout-clause-suits g c = λ old. old
 
 pub returns-in_default-clause-suits : goal.returns-in_default-clause-suits
 returns-in_default-clause-suits g c = λ old. old
+
+pub returns-in-Command-clause-wrote : goal.returns-in-Command-clause-wrote
+returns-in-Command-clause-wrote g c = λ told all rest. c.serve_command.ensures.wrote told all (login_state c.args.logins.now) rest
+
+pub returns-in_default-clause-wrote : goal.returns-in_default-clause-wrote
+returns-in_default-clause-wrote g c = λ told all rest serving. lays_none _ _
+
+pub returns-in-Login-clause-wrote : goal.returns-in-Login-clause-wrote
+returns-in-Login-clause-wrote g c = λ told all rest serving. lays_none _ _
+
+pub returns-in-Task-clause-wrote : goal.returns-in-Task-clause-wrote
+returns-in-Task-clause-wrote g c = λ told all rest serving. lays_none _ _
+
+pub returns-in-Unreadable-clause-wrote : goal.returns-in-Unreadable-clause-wrote
+returns-in-Unreadable-clause-wrote g c = λ told all rest serving. lays_none _ _
+
+pub returns-in-Logout-clause-wrote : goal.returns-in-Logout-clause-wrote
+returns-in-Logout-clause-wrote g c = λ told all rest serving. lays_none _ _
+
+pub returns-in-Command-clause-made : goal.returns-in-Command-clause-made
+returns-in-Command-clause-made g c = c.serve_command.ensures.made _
+
+pub returns-in-Login-clause-made : goal.returns-in-Login-clause-made
+returns-in-Login-clause-made g c = λ old. c.judge_login.ensures.made c.args.request.now (search rules)
+
+pub returns-in-Task-clause-made : goal.returns-in-Task-clause-made
+returns-in-Task-clause-made g c = λ old. c.add_code.ensures.made _
+
+pub returns-in-Unreadable-clause-made : goal.returns-in-Unreadable-clause-made
+returns-in-Unreadable-clause-made g c = λ old. c.add_code-in-Unreadable.ensures.made _
+
+pub returns-in-Logout-clause-made : goal.returns-in-Logout-clause-made
+returns-in-Logout-clause-made g c = λ old. old
+
+pub returns-in_default-clause-made : goal.returns-in_default-clause-made
+returns-in_default-clause-made g c = λ old. old
+
+pub returns-in-Command-clause-placed : goal.returns-in-Command-clause-placed
+returns-in-Command-clause-placed g c = c.serve_command.ensures.placed
+
+pub returns-in_default-clause-placed : goal.returns-in_default-clause-placed
+returns-in_default-clause-placed g c = λ client same alone start. lays_none _ _
+
+pub returns-in-Login-clause-placed : goal.returns-in-Login-clause-placed
+returns-in-Login-clause-placed g c = λ client same alone start. lays_none _ _
+
+pub returns-in-Task-clause-placed : goal.returns-in-Task-clause-placed
+returns-in-Task-clause-placed g c = λ client same alone start. lays_none _ _
+
+pub returns-in-Unreadable-clause-placed : goal.returns-in-Unreadable-clause-placed
+returns-in-Unreadable-clause-placed g c = λ client same alone start. lays_none _ _
+
+pub returns-in-Logout-clause-placed : goal.returns-in-Logout-clause-placed
+returns-in-Logout-clause-placed g c = λ client same alone start. lays_none _ _

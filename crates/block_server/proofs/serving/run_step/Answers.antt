@@ -20,6 +20,9 @@ use Rattle.block_server.proofs.Sendings.{before_unloaded}
 use Rattle.std.proofs.Common.{refl}
 use Rattle.block_server.proofs.ComingStages.{before_entry}
 use Rattle.block_server.proofs.Servicing.{before_suits}
+use Rattle.block_server.proofs.Standing.{before_answer}
+use Rattle.block_server.specs.Standing.{stood}
+use Rattle.block_server.proofs.Stood.{knows_answered}
 use Rattle.block_server.proofs.serving.run_step.Goals as goal
 
 pub returns-then-not-is_before_step-clause-once : goal.returns-then-not-is_before_step-clause-once
@@ -200,3 +203,32 @@ pub returns-in-Done-clause-suits : goal.returns-in-Done-clause-suits
 returns-in-Done-clause-suits g c = λ current old.
     let before : is_before_step c.args.service.now.stage ≡ true = cc in
     c.make_step.ensures.suits current (before_suits current _ _ (c.fetch.ensures.before before))
+
+pub returns-then-not-is_before_step-clause-made : goal.returns-then-not-is_before_step-clause-made
+returns-then-not-is_before_step-clause-made g c = λ granted old. old
+
+pub returns-in-Busy-clause-made : goal.returns-in-Busy-clause-made
+returns-in-Busy-clause-made g c = λ granted old.
+    let before : is_before_step c.args.service.now.stage ≡ true = cc in
+    before_answer granted c.args.request.now c.fetch.new.service.stage c.fetch.new.service.answer.items (c.fetch.ensures.before before)
+
+pub returns-in-Refused-clause-made : goal.returns-in-Refused-clause-made
+returns-in-Refused-clause-made g c = λ granted old. c.add_code.ensures.made granted
+
+pub returns-in-Done-clause-made : goal.returns-in-Done-clause-made
+returns-in-Done-clause-made g c = λ granted old.
+    let before : is_before_step c.args.service.now.stage ≡ true = cc in
+    c.make_step.ensures.made granted (before_answer granted c.args.request.now c.fetch.new.service.stage c.fetch.new.service.answer.items (c.fetch.ensures.before before))
+
+pub returns-then-not-is_before_step-clause-stood : goal.returns-then-not-is_before_step-clause-stood
+returns-then-not-is_before_step-clause-stood g c = λ client same alone known. known
+
+pub returns-in-Busy-clause-stood : goal.returns-in-Busy-clause-stood
+returns-in-Busy-clause-stood g c = λ client same alone known. c.fetch.ensures.stood client same alone known
+
+pub returns-in-Refused-clause-stood : goal.returns-in-Refused-clause-stood
+returns-in-Refused-clause-stood g c = λ client same alone known.
+    on_ok c.add_code.result _ _ (λ stage. knows_answered (stood client) c.args.command.now _ _ _ _ stage) c.add_code.ensures.stage
+
+pub returns-in-Done-clause-stood : goal.returns-in-Done-clause-stood
+returns-in-Done-clause-stood g c = λ client same alone known. c.make_step.ensures.stood client (c.fetch.ensures.stood client same alone known)

@@ -54,6 +54,13 @@ use Rattle.block_server.specs.declared.request.Request.{Request}
 use Rattle.block_server.specs.declared.service.Service.{Service}
 use Rattle.block_server.specs.Talk.{LogsOut, SuitsStage}
 use Rattle.block_server.proofs.Servicing.{first_same, no_front, serve_first}
+use Rattle.block_server.specs.Causes.{told_to}
+use Rattle.block_server.specs.Ranges.{MayWrite}
+use Rattle.block_server.proofs.RangeLaws.{lays_none, lays_on, prepared_within, wider_answer}
+use Rattle.block_server.specs.Standing.{HasAnswerAt}
+use Rattle.block_server.specs.declared.service.Stage.{Stage}
+use Rattle.block_server.proofs.Standing.{leaves_first}
+use Rattle.block_server.specs.Standing.{stood}
 use Rattle.block_server.proofs.serving.serve.Goals as goal
 
 pub returns-clause-advances : goal.returns-clause-advances
@@ -396,3 +403,76 @@ returns-clause-serves g c = λ request rest servable.
     (ap (λ (s : Service). s.stage) c.note_stage.ensures.service) c.prepare.ensures.grants (c.in_ok-prepare.ensures.went (λ is. search rules))
     (c.in_ok-prepare.ensures.suits (subst (SuitsStage c.args.unit.now.logins.current c.in-Some.request.now.order) (sym servable.stage) tt))
     (λ outcome at parts link apart on may room. c.answer.ensures.serves request rest outcome at parts link apart on may room)
+
+pub returns-in_default-clause-wrote : goal.returns-in_default-clause-wrote
+returns-in_default-clause-wrote g c = λ told all serving request rest parts. lays_none _ _
+
+pub returns-in_err-make_room-clause-wrote : goal.returns-in_err-make_room-clause-wrote
+returns-in_err-make_room-clause-wrote g c = λ told all serving request rest parts. lays_none _ _
+
+pub returns-in-Logout-clause-wrote : goal.returns-in-Logout-clause-wrote
+returns-in-Logout-clause-wrote g c = λ told all serving request rest parts. lays_none _ _
+
+pub returns-in_err-prepare-clause-wrote : goal.returns-in_err-prepare-clause-wrote
+returns-in_err-prepare-clause-wrote g c = λ told all serving request rest parts.
+    let unit = c.args.unit.now in
+    let front = front_is _ _ c.in-Some.ensures.item.3 in
+    let desk = desk_is unit.id (login_state unit.logins) unit.service None _ _ _ c.requires.none front.1 in
+    let at = subst (λ (d : Desk). IsServing (terms_of told c.args.disk.now.count) d c.args.records.now.history.items) desk serving in
+    prepared_within (told_to told unit.id) c.in-Some.request.now request _ _ (first_same _ c.in-Some.request.now request front.0 rest front.1 parts)
+    (c.prepare.ensures.wrote told all front.0 at)
+
+pub returns-clause-wrote : goal.returns-clause-wrote
+returns-clause-wrote g c = λ told all serving request rest parts.
+    let unit = c.args.unit.now in
+    let front = front_is _ _ c.in-Some.ensures.item.3 in
+    let desk = desk_is unit.id (login_state unit.logins) unit.service None _ _ _ c.requires.none front.1 in
+    let at = subst (λ (d : Desk). IsServing (terms_of told c.args.disk.now.count) d c.args.records.now.history.items) desk serving in
+    lays_on (MayWrite (told_to told unit.id) request) _ _ _
+    (prepared_within (told_to told unit.id) c.in-Some.request.now request _ _ (first_same _ c.in-Some.request.now request front.0 rest front.1 parts)
+    (c.prepare.ensures.wrote told (tells_first told unit.id (g.S.Site.state c.args.site.now) (g.S.Site.state c.prepare.new.site) (g.S.Site.state c.answer.new.site) c.answer.ensures.advances all) front.0 at))
+    (wider_answer (told_to told unit.id) request _ _ (c.answer.ensures.wrote request rest (c.note_stage.ensures.pending ∙ parts)))
+
+pub returns-in_default-clause-leaves : goal.returns-in_default-clause-leaves
+returns-in_default-clause-leaves g c = λ request rest servable other. absurd (no_front _ request rest servable.pending (search rules))
+
+pub returns-in-Logout-clause-leaves : goal.returns-in-Logout-clause-leaves
+returns-in-Logout-clause-leaves g c = λ request rest servable other.
+    let front = front_is _ _ c.in-Some.ensures.item.3 in
+    let asked : c.in-Some.request.now.order ≡ orders.Logout = search rules in
+    let same = first_same _ c.in-Some.request.now request front.0 rest front.1 servable.pending in
+    absurd (other (ap (λ (r : Request). r.order) (sym same) ∙ asked))
+
+pub returns-clause-leaves : goal.returns-clause-leaves
+returns-clause-leaves g c = λ request rest servable other.
+    let front = front_is _ _ c.in-Some.ensures.item.3 in
+    leaves_first _ c.args.unit.now c.note_stage.new.unit c.answer.new.unit (g.S.Site.state c.args.site.now) (g.S.Site.state c.prepare.new.site) (g.S.Site.state c.answer.new.site) _ _ c.in-Some.request.now request front.0 rest
+    c.prepare.new.service.stage c.prepare.new.service.answer.items c.answer.result servable front.1 c.prepare.ensures.advances c.prepare.ensures.queue c.note_stage.ensures.pending
+    (ap (λ (s : Service). s.stage) c.note_stage.ensures.service) (ap (λ (s : Service). s.answer.items) c.note_stage.ensures.service) (c.in_ok-prepare.ensures.went (λ is. search rules))
+    (c.in_ok-prepare.ensures.suits (subst (SuitsStage c.args.unit.now.logins.current c.in-Some.request.now.order) (sym servable.stage) tt))
+    (c.in_ok-prepare.ensures.made (subst (λ (stage : Stage). HasAnswerAt c.args.unit.now.logins.granted c.in-Some.request.now stage c.args.unit.now.service.answer.items) (sym servable.stage) tt))
+    (λ outcome at parts link apart on may room. c.answer.ensures.serves request rest outcome at parts link apart on may room)
+    (λ outcome at parts apart may. c.answer.ensures.laid request rest outcome at parts apart may)
+
+pub returns-in_default-clause-placed : goal.returns-in_default-clause-placed
+returns-in_default-clause-placed g c = λ client same alone start request rest parts. lays_none _ _
+
+pub returns-in_err-make_room-clause-placed : goal.returns-in_err-make_room-clause-placed
+returns-in_err-make_room-clause-placed g c = λ client same alone start request rest parts. lays_none _ _
+
+pub returns-in-Logout-clause-placed : goal.returns-in-Logout-clause-placed
+returns-in-Logout-clause-placed g c = λ client same alone start request rest parts. lays_none _ _
+
+pub returns-in_err-prepare-clause-placed : goal.returns-in_err-prepare-clause-placed
+returns-in_err-prepare-clause-placed g c = λ client same alone start request rest parts.
+    let front = front_is _ _ c.in-Some.ensures.item.3 in
+    prepared_within (stood client) c.in-Some.request.now request _ _ (first_same _ c.in-Some.request.now request front.0 rest front.1 parts)
+    (c.prepare.ensures.placed client same alone start)
+
+pub returns-clause-placed : goal.returns-clause-placed
+returns-clause-placed g c = λ client same alone start request rest parts.
+    let front = front_is _ _ c.in-Some.ensures.item.3 in
+    lays_on (MayWrite (stood client) request) _ _ _
+    (prepared_within (stood client) c.in-Some.request.now request _ _ (first_same _ c.in-Some.request.now request front.0 rest front.1 parts)
+    (c.prepare.ensures.placed client same alone start))
+    (wider_answer (stood client) request _ _ (c.answer.ensures.wrote request rest (c.note_stage.ensures.pending ∙ parts)))

@@ -14,6 +14,12 @@ use Rattle.block_server.proofs.OwingRows.{moves_on, moves_same}
 use Rattle.std.proofs.Common.{None}
 use Rattle.block_server.specs.Serving.{held}
 use Rattle.block_server.proofs.ComingStages.{entry_on}
+use Rattle.block_server.specs.Causes.{told_to}
+use Rattle.block_server.proofs.RangeLaws.{lays_asked, lays_same, served_within}
+use Rattle.block_server.specs.Ranges.{client_known}
+use Rattle.block_server.specs.Standing.{stood}
+use Rattle.block_server.specs.declared.service.Stage.TheVariants.{Start}
+use Rattle.block_server.proofs.Stood.{knows_at, placed_within}
 use Rattle.block_server.proofs.serving.serve_command.Goals as goal
 
 pub returns-in_err-run_step-clause-once : goal.returns-in_err-run_step-clause-once
@@ -110,3 +116,34 @@ returns-clause-entry g c = entry_on _ _ _ (entry_on _ _ _ c.run_step.ensures.ent
 
 pub returns-clause-suits : goal.returns-clause-suits
 returns-clause-suits g c = λ current old. c.hand_over.ensures.suits current (c.in_ok-store.ensures.suits current _ (c.in_ok-run_step.ensures.suits current old))
+
+pub returns-in_err-run_step-clause-wrote : goal.returns-in_err-run_step-clause-wrote
+returns-in_err-run_step-clause-wrote g c = λ told all credits rest serving. lays_same _ _ _ c.run_step.ensures.known
+
+pub returns-in_err-store-clause-wrote : goal.returns-in_err-store-clause-wrote
+returns-in_err-store-clause-wrote g c = λ told all credits rest serving. lays_same _ _ _ (c.store.ensures.known ∙ c.run_step.ensures.known)
+
+pub returns-clause-wrote : goal.returns-clause-wrote
+returns-clause-wrote g c = λ told all credits rest serving.
+    let first = (tells_first told c.args.id (g.S.Site.state c.args.site.now) (g.S.Site.state c.run_step.new.site) (g.S.Site.state c.hand_over.new.site) (advances_on _ _ _ c.store.ensures.advances c.hand_over.ensures.advances) all) in
+    let stepped = (c.run_step.ensures.once told first credits rest serving).serving in
+    let stored = (c.store.ensures.once c.args.id credits rest c.run_step.new.records (held told c.run_step.new.disk.count None) stepped).serving in
+    lays_asked (told_to told c.args.id) c.args.request.now.order c.args.command.now (client_known (g.S.Site.state c.args.site.now)) (client_known (g.S.Site.state c.hand_over.new.site)) c.requires.asked
+    (served_within (told_to told c.args.id) c.args.command.now c.store.new.service c.args.request.now rest _ _ _ c.requires.asked stored.fetched (c.store.ensures.known ∙ c.run_step.ensures.known)
+    c.hand_over.ensures.wrote c.hand_over.ensures.unwritten)
+
+pub returns-clause-made : goal.returns-clause-made
+returns-clause-made g c = λ granted old. c.hand_over.ensures.made granted (c.in_ok-store.ensures.made granted (c.in_ok-run_step.ensures.made granted old))
+
+pub returns-in_err-run_step-clause-placed : goal.returns-in_err-run_step-clause-placed
+returns-in_err-run_step-clause-placed g c = λ client same alone known. lays_same _ _ _ c.run_step.ensures.known
+
+pub returns-in_err-store-clause-placed : goal.returns-in_err-store-clause-placed
+returns-in_err-store-clause-placed g c = λ client same alone known. lays_same _ _ _ (c.store.ensures.known ∙ c.run_step.ensures.known)
+
+pub returns-clause-placed : goal.returns-clause-placed
+returns-clause-placed g c = λ client same alone start.
+    let known = knows_at (stood client) c.args.command.now c.args.service.now.stage Start c.args.service.now.out.list.items c.args.service.now.inn.list.items start tt in
+    lays_asked (stood client) c.args.request.now.order c.args.command.now (client_known (g.S.Site.state c.args.site.now)) (client_known (g.S.Site.state c.hand_over.new.site)) c.requires.asked
+    (placed_within (stood client) c.args.command.now c.store.new.service _ _ _ (c.in_ok-store.ensures.stood c.args.command.now client (c.in_ok-run_step.ensures.stood client same alone known))
+    (c.store.ensures.known ∙ c.run_step.ensures.known) c.hand_over.ensures.wrote c.hand_over.ensures.unwritten)

@@ -12,6 +12,8 @@ use Rattle.block_server.proofs.Sendings.{given_shown, stored}
 use Rattle.std.proofs.Common.{rules, subst, ◌≡◌}
 use Rattle.block_server.specs.Cargo.{AreShown}
 use Rattle.block_server.proofs.ComingStages.{other_entry}
+use Rattle.block_server.specs.Standing.{stood}
+use Rattle.block_server.proofs.Stood.{knows_then}
 use Rattle.block_server.proofs.serving.store.Goals as goal
 
 pub returns-in_err-write_data-clause-once : goal.returns-in_err-write_data-clause-once
@@ -66,3 +68,16 @@ returns-in_default-clause-suits g c = λ current order old. old
 
 pub returns-in_ok-write_data-clause-suits : goal.returns-in_ok-write_data-clause-suits
 returns-in_ok-write_data-clause-suits g c = λ current order old. tt
+
+pub returns-in_default-clause-made : goal.returns-in_default-clause-made
+returns-in_default-clause-made g c = λ granted old. old
+
+pub returns-in_ok-write_data-clause-made : goal.returns-in_ok-write_data-clause-made
+returns-in_ok-write_data-clause-made g c = λ granted old. tt
+
+pub returns-in_default-clause-stood : goal.returns-in_default-clause-stood
+returns-in_default-clause-stood g c = λ command client known. known
+
+pub returns-in_ok-write_data-clause-stood : goal.returns-in_ok-write_data-clause-stood
+returns-in_ok-write_data-clause-stood g c = λ command client known.
+    knows_then (stood client) command _ (Given c.in-Given.row c.in-Given.reply) c.args.service.now.out.list.items c.args.service.now.inn.list.items c.in-Given.is known

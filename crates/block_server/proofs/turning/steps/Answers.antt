@@ -24,6 +24,10 @@ use Rattle.block_server.specs.SiteState.{SiteState}
 use Rattle.block_server.specs.Talk.{reach_of}
 use Rattle.block_server.specs.declared.unit.Unit.{Unit}
 use Rattle.block_server.proofs.Talks.{not_end, ready_on, still_on, talks_on}
+use Rattle.block_server.specs.Causes.{told_to}
+use Rattle.block_server.specs.Ranges.{MayWrite, LaysIn, client_known}
+use Rattle.block_server.proofs.TurnRanges.{leaves_on, writes_on}
+use Rattle.block_server.specs.Standing.{stood}
 use Rattle.block_server.proofs.turning.steps.Goals as goal
 
 pub returns-in_err-open_line-clause-once : goal.returns-in_err-open_line-clause-once
@@ -408,3 +412,118 @@ returns-clause-talks g c = λ words calm.
     _ _ _ _ words c.serve.result calm opened.1 first.0 first.1 c.open_line.ensures.advances.shared put.1 (ap reach_of put.2) (c.in_ok-put_kept.ensures.unkept none) c.take_in.ensures.advances.shared
     (λ now few. let heard = c.in_ok-take_in.ensures.hears words now few in (heard.1, heard.2))
     c.serve.ensures.nothing (λ empty. ap (λ (s : SiteState). s.queue) (c.serve.ensures.still empty)) c.serve.ensures.unserved c.serve.ensures.serves
+
+pub returns-then-eq-clause-writes : goal.returns-then-eq-clause-writes
+returns-then-eq-clause-writes g c = λ told all serving words calm.
+    let opened = c.in_ok-open_line.ensures.rests (still_on c.args.unit.now.line calm.calm.closing calm.calm.up) calm.event in
+    absurd (not_end c.in_ok-open_line.field-0 (search rules) (inl opened.0))
+
+pub returns-then-eq-2-clause-writes : goal.returns-then-eq-2-clause-writes
+returns-then-eq-2-clause-writes g c = λ told all serving words calm.
+    let opened = c.in_ok-open_line.ensures.rests (still_on c.args.unit.now.line calm.calm.closing calm.calm.up) calm.event in
+    let put = c.in_ok-put_kept.ensures.rests (ap (λ (u : Unit). u.line.kept) opened.1 ∙ calm.calm.kept) in
+    absurd (not_end c.in_ok-put_kept.field-0 (search rules) (inl put.0))
+
+pub returns-then-eq-3-clause-writes : goal.returns-then-eq-3-clause-writes
+returns-then-eq-3-clause-writes g c = λ told all serving words calm.
+    let on = still_on c.args.unit.now.line calm.calm.closing calm.calm.up in
+    let opened = c.in_ok-open_line.ensures.rests on calm.event in
+    let first = c.in_ok-open_line.ensures.idle calm.calm.alone on calm.event in
+    let put = c.in_ok-put_kept.ensures.rests (ap (λ (u : Unit). u.line.kept) opened.1 ∙ calm.calm.kept) in
+    let ready = ready_on _ c.args.unit.now c.open_line.new.unit c.put_kept.new.unit (reach_of (g.S.Site.state c.args.site.now)) (reach_of (g.S.Site.state c.open_line.new.site)) (reach_of (g.S.Site.state c.put_kept.new.site)) words calm
+    opened.1 first.0 first.1 c.open_line.ensures.advances.shared put.1 (ap reach_of put.2) in
+    absurd (not_end c.in_ok-take_in.field-0 (search rules) (inr (c.in_ok-take_in.ensures.hears words ready.0 ready.1).0))
+
+pub returns-clause-writes : goal.returns-clause-writes
+returns-clause-writes g c = λ told all serving words calm.
+    let heard = tells_first told c.args.unit.now.id (g.S.Site.state c.args.site.now) (g.S.Site.state c.take_in.new.site) (g.S.Site.state c.serve.new.site) c.serve.ensures.advances all in
+    let disk = held told c.args.disk.now.count None in
+    let behind =
+    once_by (g.S.Site.state c.args.site.now) (g.S.Site.state c.put_kept.new.site) (g.S.Site.state c.take_in.new.site) _ _ _ c.args.records.now c.put_kept.new.records c.take_in.new.records
+    (advances_on _ _ _ c.open_line.ensures.advances c.put_kept.ensures.advances) c.take_in.ensures.advances
+    (λ disk heard. once_on _ _ _ _ _ _ _ _ _ (c.open_line.ensures.once c.args.records.now) c.put_kept.ensures.once disk) c.take_in.ensures.once disk heard serving in
+    let gone = advances_on _ _ _ (advances_on _ _ _ c.open_line.ensures.advances c.put_kept.ensures.advances) c.take_in.ensures.advances in
+    let next = tells_next told c.take_in.new.unit.id (g.S.Site.state c.args.site.now) (g.S.Site.state c.take_in.new.site) (g.S.Site.state c.serve.new.site) gone
+    (subst (λ (id : UnitId). TellsAll told id (g.S.Site.state c.args.site.now) (g.S.Site.state c.serve.new.site)) (sym behind.id) all) in
+    let on = still_on c.args.unit.now.line calm.calm.closing calm.calm.up in
+    let opened = c.in_ok-open_line.ensures.rests on calm.event in
+    let first = c.in_ok-open_line.ensures.idle calm.calm.alone on calm.event in
+    let none = ap (λ (u : Unit). u.line.kept) opened.1 ∙ calm.calm.kept in
+    let put = c.in_ok-put_kept.ensures.rests none in
+    writes_on (told_to told c.args.unit.now.id) _ c.args.unit.now c.open_line.new.unit c.put_kept.new.unit c.take_in.new.unit
+    (g.S.Site.state c.args.site.now) (g.S.Site.state c.open_line.new.site) (g.S.Site.state c.put_kept.new.site) (g.S.Site.state c.take_in.new.site) (g.S.Site.state c.serve.new.site)
+    _ _ _ words c.serve.result calm opened.1 first.0 first.1 c.open_line.ensures.advances.shared put.1 put.2 (c.in_ok-put_kept.ensures.unkept none) c.take_in.ensures.advances.shared
+    (λ now few. (c.in_ok-take_in.ensures.hears words now few).1)
+    (λ window apart start request rest is. subst (λ (id : UnitId). LaysIn (MayWrite (told_to told id) request) (client_known (g.S.Site.state c.take_in.new.site)) (client_known (g.S.Site.state c.serve.new.site)))
+    behind.id (c.serve.ensures.wrote told next behind.serving request rest is))
+    c.serve.ensures.still
+
+pub returns-then-eq-clause-leaves : goal.returns-then-eq-clause-leaves
+returns-then-eq-clause-leaves g c = λ words calm.
+    let opened = c.in_ok-open_line.ensures.rests (still_on c.args.unit.now.line calm.calm.closing calm.calm.up) calm.event in
+    absurd (not_end c.in_ok-open_line.field-0 (search rules) (inl opened.0))
+
+pub returns-then-eq-2-clause-leaves : goal.returns-then-eq-2-clause-leaves
+returns-then-eq-2-clause-leaves g c = λ words calm.
+    let opened = c.in_ok-open_line.ensures.rests (still_on c.args.unit.now.line calm.calm.closing calm.calm.up) calm.event in
+    let put = c.in_ok-put_kept.ensures.rests (ap (λ (u : Unit). u.line.kept) opened.1 ∙ calm.calm.kept) in
+    absurd (not_end c.in_ok-put_kept.field-0 (search rules) (inl put.0))
+
+pub returns-then-eq-3-clause-leaves : goal.returns-then-eq-3-clause-leaves
+returns-then-eq-3-clause-leaves g c = λ words calm.
+    let on = still_on c.args.unit.now.line calm.calm.closing calm.calm.up in
+    let opened = c.in_ok-open_line.ensures.rests on calm.event in
+    let first = c.in_ok-open_line.ensures.idle calm.calm.alone on calm.event in
+    let put = c.in_ok-put_kept.ensures.rests (ap (λ (u : Unit). u.line.kept) opened.1 ∙ calm.calm.kept) in
+    let ready = ready_on _ c.args.unit.now c.open_line.new.unit c.put_kept.new.unit (reach_of (g.S.Site.state c.args.site.now)) (reach_of (g.S.Site.state c.open_line.new.site)) (reach_of (g.S.Site.state c.put_kept.new.site)) words calm
+    opened.1 first.0 first.1 c.open_line.ensures.advances.shared put.1 (ap reach_of put.2) in
+    absurd (not_end c.in_ok-take_in.field-0 (search rules) (inr (c.in_ok-take_in.ensures.hears words ready.0 ready.1).0))
+
+pub returns-clause-leaves : goal.returns-clause-leaves
+returns-clause-leaves g c = λ words calm.
+    let on = still_on c.args.unit.now.line calm.calm.closing calm.calm.up in
+    let opened = c.in_ok-open_line.ensures.rests on calm.event in
+    let first = c.in_ok-open_line.ensures.idle calm.calm.alone on calm.event in
+    let none = ap (λ (u : Unit). u.line.kept) opened.1 ∙ calm.calm.kept in
+    let put = c.in_ok-put_kept.ensures.rests none in
+    leaves_on _ c.args.unit.now c.open_line.new.unit c.put_kept.new.unit c.take_in.new.unit
+    (reach_of (g.S.Site.state c.args.site.now)) (reach_of (g.S.Site.state c.open_line.new.site)) (reach_of (g.S.Site.state c.put_kept.new.site)) (reach_of (g.S.Site.state c.take_in.new.site))
+    (g.S.Site.state c.serve.new.site).queue (g.S.Site.state c.serve.new.site).client
+    _ _ _ words c.serve.result calm opened.1 first.0 first.1 c.open_line.ensures.advances.shared put.1 (ap reach_of put.2) (c.in_ok-put_kept.ensures.unkept none) c.take_in.ensures.advances.shared
+    (λ now few. (c.in_ok-take_in.ensures.hears words now few).1)
+    c.serve.ensures.leaves
+
+pub returns-then-eq-clause-places : goal.returns-then-eq-clause-places
+returns-then-eq-clause-places g c = λ words calm.
+    let opened = c.in_ok-open_line.ensures.rests (still_on c.args.unit.now.line calm.calm.closing calm.calm.up) calm.event in
+    absurd (not_end c.in_ok-open_line.field-0 (search rules) (inl opened.0))
+
+pub returns-then-eq-2-clause-places : goal.returns-then-eq-2-clause-places
+returns-then-eq-2-clause-places g c = λ words calm.
+    let opened = c.in_ok-open_line.ensures.rests (still_on c.args.unit.now.line calm.calm.closing calm.calm.up) calm.event in
+    let put = c.in_ok-put_kept.ensures.rests (ap (λ (u : Unit). u.line.kept) opened.1 ∙ calm.calm.kept) in
+    absurd (not_end c.in_ok-put_kept.field-0 (search rules) (inl put.0))
+
+pub returns-then-eq-3-clause-places : goal.returns-then-eq-3-clause-places
+returns-then-eq-3-clause-places g c = λ words calm.
+    let on = still_on c.args.unit.now.line calm.calm.closing calm.calm.up in
+    let opened = c.in_ok-open_line.ensures.rests on calm.event in
+    let first = c.in_ok-open_line.ensures.idle calm.calm.alone on calm.event in
+    let put = c.in_ok-put_kept.ensures.rests (ap (λ (u : Unit). u.line.kept) opened.1 ∙ calm.calm.kept) in
+    let ready = ready_on _ c.args.unit.now c.open_line.new.unit c.put_kept.new.unit (reach_of (g.S.Site.state c.args.site.now)) (reach_of (g.S.Site.state c.open_line.new.site)) (reach_of (g.S.Site.state c.put_kept.new.site)) words calm
+    opened.1 first.0 first.1 c.open_line.ensures.advances.shared put.1 (ap reach_of put.2) in
+    absurd (not_end c.in_ok-take_in.field-0 (search rules) (inr (c.in_ok-take_in.ensures.hears words ready.0 ready.1).0))
+
+pub returns-clause-places : goal.returns-clause-places
+returns-clause-places g c = λ words calm.
+    let on = still_on c.args.unit.now.line calm.calm.closing calm.calm.up in
+    let opened = c.in_ok-open_line.ensures.rests on calm.event in
+    let first = c.in_ok-open_line.ensures.idle calm.calm.alone on calm.event in
+    let none = ap (λ (u : Unit). u.line.kept) opened.1 ∙ calm.calm.kept in
+    let put = c.in_ok-put_kept.ensures.rests none in
+    writes_on (stood (g.S.Site.state c.args.site.now).client) _ c.args.unit.now c.open_line.new.unit c.put_kept.new.unit c.take_in.new.unit
+    (g.S.Site.state c.args.site.now) (g.S.Site.state c.open_line.new.site) (g.S.Site.state c.put_kept.new.site) (g.S.Site.state c.take_in.new.site) (g.S.Site.state c.serve.new.site)
+    _ _ _ words c.serve.result calm opened.1 first.0 first.1 c.open_line.ensures.advances.shared put.1 put.2 (c.in_ok-put_kept.ensures.unkept none) c.take_in.ensures.advances.shared
+    (λ now few. (c.in_ok-take_in.ensures.hears words now few).1)
+    (λ window apart start request rest is. c.serve.ensures.placed (g.S.Site.state c.args.site.now).client window apart start request rest is)
+    c.serve.ensures.still

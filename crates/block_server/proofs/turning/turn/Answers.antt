@@ -2,6 +2,9 @@ use Rattle.std.proofs.Common.{false, refl}
 use Rattle.block_server.specs.Talk.{reach_of}
 use Rattle.block_server.proofs.Talks.{calm_from, talks_from}
 use Rattle.block_server.proofs.ComingParts.{comes_apart}
+use Rattle.block_server.specs.Causes.{told_to}
+use Rattle.block_server.proofs.TurnRanges.{leaves_from, writes_from}
+use Rattle.block_server.specs.Standing.{stood}
 use Rattle.block_server.proofs.turning.turn.Goals as goal
 
 pub returns-else-unit-clause-waits : goal.returns-else-unit-clause-waits
@@ -23,3 +26,33 @@ pub returns-else-unit-clause-talks : goal.returns-else-unit-clause-talks
 returns-else-unit-clause-talks g c = λ words calm.
     talks_from c.args.unit.now (record c.args.unit.now { moved = false }) c.steps.new.unit (reach_of (g.S.Site.state c.args.site.now)) _ _ _ words refl refl
     (c.in_ok-steps.ensures.talks words (calm_from c.args.unit.now (record c.args.unit.now { moved = false }) (reach_of (g.S.Site.state c.args.site.now)) _ words refl refl refl refl calm))
+
+pub returns-then-unit-clause-writes : goal.returns-then-unit-clause-writes
+returns-then-unit-clause-writes g c = λ told all serving words calm.
+    writes_from (told_to told c.args.unit.now.id) c.args.unit.now (record c.args.unit.now { moved = false }) _ words _ _ refl
+    (c.in_ok-steps.ensures.writes told all serving words (calm_from c.args.unit.now (record c.args.unit.now { moved = false }) (reach_of (g.S.Site.state c.args.site.now)) _ words refl refl refl refl calm))
+
+pub returns-else-unit-clause-writes : goal.returns-else-unit-clause-writes
+returns-else-unit-clause-writes g c = λ told all serving words calm.
+    writes_from (told_to told c.args.unit.now.id) c.args.unit.now (record c.args.unit.now { moved = false }) _ words _ _ refl
+    (c.in_ok-steps.ensures.writes told all serving words (calm_from c.args.unit.now (record c.args.unit.now { moved = false }) (reach_of (g.S.Site.state c.args.site.now)) _ words refl refl refl refl calm))
+
+pub returns-then-unit-clause-leaves : goal.returns-then-unit-clause-leaves
+returns-then-unit-clause-leaves g c = λ words calm.
+    leaves_from c.args.unit.now (record c.args.unit.now { moved = false }) _ words _ _ refl
+    (c.in_ok-steps.ensures.leaves words (calm_from c.args.unit.now (record c.args.unit.now { moved = false }) (reach_of (g.S.Site.state c.args.site.now)) _ words refl refl refl refl calm))
+
+pub returns-else-unit-clause-leaves : goal.returns-else-unit-clause-leaves
+returns-else-unit-clause-leaves g c = λ words calm.
+    leaves_from c.args.unit.now (record c.args.unit.now { moved = false }) _ words _ _ refl
+    (c.in_ok-steps.ensures.leaves words (calm_from c.args.unit.now (record c.args.unit.now { moved = false }) (reach_of (g.S.Site.state c.args.site.now)) _ words refl refl refl refl calm))
+
+pub returns-then-unit-clause-places : goal.returns-then-unit-clause-places
+returns-then-unit-clause-places g c = λ words calm.
+    writes_from (stood (g.S.Site.state c.args.site.now).client) c.args.unit.now (record c.args.unit.now { moved = false }) _ words _ _ refl
+    (c.in_ok-steps.ensures.places words (calm_from c.args.unit.now (record c.args.unit.now { moved = false }) (reach_of (g.S.Site.state c.args.site.now)) _ words refl refl refl refl calm))
+
+pub returns-else-unit-clause-places : goal.returns-else-unit-clause-places
+returns-else-unit-clause-places g c = λ words calm.
+    writes_from (stood (g.S.Site.state c.args.site.now).client) c.args.unit.now (record c.args.unit.now { moved = false }) _ words _ _ refl
+    (c.in_ok-steps.ensures.places words (calm_from c.args.unit.now (record c.args.unit.now { moved = false }) (reach_of (g.S.Site.state c.args.site.now)) _ words refl refl refl refl calm))

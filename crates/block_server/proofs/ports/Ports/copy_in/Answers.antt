@@ -11,6 +11,7 @@ use Rattle.block_server.proofs.NamedWindows.{same_named, source_named, target_na
 use Rattle.block_server.proofs.FirstPages.{behind_first, fetches_same, made_in, none_in}
 use Rattle.block_server.proofs.Owning.{fetch_denied}
 use Rattle.block_server.proofs.Reading.{known_read, known_same}
+use Rattle.block_server.proofs.RangeLaws.{read_known}
 use Rattle.block_server.proofs.ports.Ports.copy_in.Goals as goal
 
 pub returns-clause-advances : goal.returns-clause-advances
@@ -74,3 +75,8 @@ returns-clause-client g c = λ alone. known_read g.R.WindowPort.is_shared _ _ al
 
 pub returns-then-is_err-clause-client : goal.returns-then-is_err-clause-client
 returns-then-is_err-clause-client g c = λ alone. known_same _
+
+pub returns-clause-known : goal.returns-clause-known
+returns-clause-known g c =
+    read_known g.R.WindowPort.is_shared _ _
+    (λ alone. known_read g.R.WindowPort.is_shared _ _ alone c.copy_rdma-answer.ensures.read c.copy_rdma-answer.ensures.source)

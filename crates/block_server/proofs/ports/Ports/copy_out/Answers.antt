@@ -9,6 +9,7 @@ use Rattle.block_server.proofs.NamedWindows.{same_named, source_named, target_na
 use Rattle.block_server.proofs.FirstPages.{fetches_same, made_in, none_in, to_client}
 use Rattle.block_server.proofs.Owning.{deliver_denied}
 use Rattle.block_server.proofs.UnitBytes.{lays_none, only_copies}
+use Rattle.block_server.proofs.RangeLaws.{copy_within, lays_none as lays_nothing}
 use Rattle.block_server.proofs.ports.Ports.copy_out.Goals as goal
 
 pub returns-clause-advances : goal.returns-clause-advances
@@ -68,3 +69,11 @@ returns-then-is_err-clause-laid g c = lays_none _ _
 
 pub returns-then-is_err-clause-rest : goal.returns-then-is_err-clause-rest
 returns-then-is_err-clause-rest g c = only_copies _ _ c.args.self.now.ready.own_free
+
+pub returns-clause-wrote : goal.returns-clause-wrote
+returns-clause-wrote g c =
+    copy_within g.R.WindowPort.is_shared _ _ _ _ _ _ _ c.copy_rdma-answer.result c.copy_rdma-answer.ensures.copied c.copy_rdma-answer.ensures.refused
+    c.copy_rdma-answer.ensures.target
+
+pub returns-then-is_err-clause-wrote : goal.returns-then-is_err-clause-wrote
+returns-then-is_err-clause-wrote g c = lays_nothing _ _

@@ -6,6 +6,11 @@ use Rattle.block_server.proofs.DeliveredBytes.{delivers_one}
 use Rattle.std.proofs.Common.{◌∙◌}
 use Rattle.block_server.proofs.FirstPages.{fetches_same, none_behind, queue_stays}
 use Rattle.block_server.proofs.Advancing.{advances_on}
+use Rattle.std.proofs.Common.{ap, length, subst}
+use Rattle.tce_window.specs.PortState.{PortState}
+use Rattle.block_server.specs.Ranges.{IsRange, LaysIn, seen_in}
+use Rattle.block_server.proofs.RangeLaws.{lays_same}
+use Rattle.block_server.proofs.Standing.{stands_one}
 use Rattle.block_server.proofs.ports.PortsSite.deliver_unit.Goals as goal
 
 pub returns-in-Ok-clause-advances : goal.returns-in-Ok-clause-advances
@@ -39,3 +44,17 @@ returns-in-Ok-clause-data g c =
 pub returns-in-Err-clause-data : goal.returns-in-Err-clause-data
 returns-in-Err-clause-data g c =
     same_pages _ _ _ _ (none_data _ _ _ c.args.self.now.alone c.in-Err.ensures.laid) c.write_own.ensures.own.place (same_count _ _ _ c.write_own.ensures.copies)
+
+pub returns-in-Ok-clause-wrote : goal.returns-in-Ok-clause-wrote
+returns-in-Ok-clause-wrote g c =
+    subst (λ (port : PortState). LaysIn (IsRange c.args.address (length c.args.bytes.now)) (seen_in g.R.WindowPort.is_shared port) (seen_in g.R.WindowPort.is_shared (g.R.WindowPort.state c.copy_out.new.self.client.now)))
+    c.write_own.ensures.client c.copy_out.ensures.wrote
+
+pub returns-in-Err-clause-wrote : goal.returns-in-Err-clause-wrote
+returns-in-Err-clause-wrote g c = lays_same _ _ _ (ap (seen_in g.R.WindowPort.is_shared) c.write_own.ensures.client)
+
+pub returns-in-Ok-clause-laid : goal.returns-in-Ok-clause-laid
+returns-in-Ok-clause-laid g c =
+    on_ok_map c.copy_out.result _ _
+    (λ made. stands_one g.O.WindowPort.is_shared g.R.WindowPort.is_shared _ _ _ _ _ _ _ _ _ _ _ c.args.self.now.alone c.args.self.now.ready.first
+    (omega arith) (omega arith) (omega arith) c.in-Ok.ensures.wrote c.write_own.ensures.own c.copy_out.ensures.laid c.copy_out.ensures.rest made) c.copy_out.ensures.made

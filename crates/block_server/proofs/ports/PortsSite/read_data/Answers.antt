@@ -4,6 +4,8 @@ use Rattle.block_server.proofs.DataPages.{read_data, reads_shown, reads_two}
 use Rattle.std.proofs.Common.{◌∙◌}
 use Rattle.block_server.proofs.FirstPages.{fetches_same, queue_stays}
 use Rattle.block_server.proofs.Advancing.{advances_on}
+use Rattle.std.proofs.Common.{ap}
+use Rattle.block_server.specs.Ranges.{seen_in}
 use Rattle.block_server.proofs.ports.PortsSite.read_data.Goals as goal
 
 pub returns-then-out-gt-MOST_BYTES-clause-advances : goal.returns-then-out-gt-MOST_BYTES-clause-advances
@@ -38,3 +40,9 @@ returns-then-out-gt-MOST_BYTES-clause-read g c =
 
 pub returns-then-not-is_empty-clause-read : goal.returns-then-not-is_empty-clause-read
 returns-then-not-is_empty-clause-read g c = reads_shown _ _ c.read_own-then-not-is_empty.ensures.read
+
+pub returns-then-out-gt-MOST_BYTES-clause-known : goal.returns-then-out-gt-MOST_BYTES-clause-known
+returns-then-out-gt-MOST_BYTES-clause-known g c = ap (seen_in g.R.WindowPort.is_shared) (c.read_own-then-out-gt-MOST_BYTES.ensures.client ∙ c.read_own.ensures.client)
+
+pub returns-then-not-is_empty-clause-known : goal.returns-then-not-is_empty-clause-known
+returns-then-not-is_empty-clause-known g c = ap (seen_in g.R.WindowPort.is_shared) c.read_own-then-not-is_empty.ensures.client

@@ -4,6 +4,8 @@ use Rattle.tce_window.proofs.Laws.{on_ok_map}
 use Rattle.block_server.proofs.DataPages.{data_shown, data_shown_two}
 use Rattle.block_server.proofs.FirstPages.{fetches_same, queue_stays}
 use Rattle.block_server.proofs.Advancing.{advances_on}
+use Rattle.std.proofs.Common.{ap}
+use Rattle.block_server.specs.Ranges.{seen_in}
 use Rattle.block_server.proofs.ports.PortsSite.write_data.Goals as goal
 
 pub returns-in_ok-write_own-clause-advances : goal.returns-in_ok-write_own-clause-advances
@@ -35,3 +37,12 @@ pub returns-else-is_empty-clause-shown : goal.returns-else-is_empty-clause-shown
 returns-else-is_empty-clause-shown g c =
     on_ok_map c.write_own-else-is_empty.result _ _
     (λ wrote. data_shown g.O.WindowPort.is_shared _ _ _ c.args.bytes.now c.args.self.now.alone wrote) c.write_own-else-is_empty.ensures.wrote
+
+pub returns-in_err-write_own-clause-known : goal.returns-in_err-write_own-clause-known
+returns-in_err-write_own-clause-known g c = ap (seen_in g.R.WindowPort.is_shared) c.write_own.ensures.client
+
+pub returns-in_ok-write_own-clause-known : goal.returns-in_ok-write_own-clause-known
+returns-in_ok-write_own-clause-known g c = ap (seen_in g.R.WindowPort.is_shared) (c.write_own-then-bytes-gt-MOST_BYTES.ensures.client ∙ c.write_own.ensures.client)
+
+pub returns-else-is_empty-clause-known : goal.returns-else-is_empty-clause-known
+returns-else-is_empty-clause-known g c = ap (seen_in g.R.WindowPort.is_shared) c.write_own-else-is_empty.ensures.client

@@ -27,12 +27,14 @@ use Rattle.block_server.specs.Rejecting.{LinesTellLogin}
 use Rattle.block_server.proofs.Ledgers.{accounted_first, in_order_turn}
 use Rattle.block_server.specs.Causes.{told_to}
 use Rattle.block_server.specs.Dealt.{HasDealt, KnowsSends}
-use Rattle.block_server.specs.Receipts.{is_ended}
 use Rattle.block_server.specs.Turns.{IsStill, way_of}
 use Rattle.block_server.proofs.ComingTurns.{Differs, differs_by, way_moved}
 use Rattle.std.specs.Prelude.{OnOk}
 use Rattle.block_server.specs.Talk.{UnitTalksOn, reach}
 use Rattle.block_server.proofs.Talks.{unit_talks}
+use Rattle.block_server.specs.Ranges.{WritesOn, seen_in}
+use Rattle.block_server.proofs.TurnRanges.{unit_leaves, unit_writes}
+use Rattle.block_server.specs.Standing.{LeavesOn, stood}
 use Rattle.block_server.proofs.server.Server.turn.Goals as goal
 
 pub returns-clause-answers : goal.returns-clause-answers
@@ -313,3 +315,47 @@ returns-clause-talks g c = λ words u at calm.
     (unit_talks _ server.units.items c.args.unit u c.index_mut.result.now c.turn.new.unit
     (reach (g.C.CrqEnd.state c.args.crq.now) (g.R.WindowPort.state c.args.client.now) g.R.WindowPort.is_shared) (g.C.CrqEnd.state c.turn.new.site.queue.now)
     server.records.grants.items c.turn.new.records.grants.items words c.turn.result there at (c.turn.ensures.talks words) calm)
+
+pub returns-clause-writes : goal.returns-clause-writes
+returns-clause-writes g c = λ told tells all words u at calm.
+    let server = c.args.self.now in
+    let there : slice_get server.units.items c.args.unit ≡ Some c.index_mut.result.now =
+    slice_get_read server.units.items _ c.args.unit _ server.units.ok.0 c.requires.unit c.index_mut.ensures.value in
+    let is = all c.args.unit c.index_mut.result.now there in
+    let reached = ap (λ (lent : Lenders). lent.client) c.turn.ensures.advances.reached in
+    let heard = tells_turn told _ _ _ _ _ _ _ _ _ _ (sym (is.id ∙ sym c.requires.named)) (sym (ap g.O.WindowPort.state (c.own-1.given.1 (sym (ap (λ (lent : Lenders). lent.own) c.turn.ensures.advances.reached)))))
+    (sym (ap g.R.WindowPort.state (c.client-1.given.1 (sym reached)))) tells in
+    let client = sym (ap g.R.WindowPort.state (c.client-1.given.1 (sym reached))) in
+    subst (λ (z : UnitId × PortState). OnOk c.turn.result (WritesOn (told_to told z.0) u (g.C.CrqEnd.state c.args.crq.now) words
+    (seen_in g.R.WindowPort.is_shared (g.R.WindowPort.state c.args.client.now)) (seen_in g.R.WindowPort.is_shared z.1)))
+    (λ i. ((is.id ∙ sym c.requires.named) i, client i))
+    (unit_writes (told_to told c.index_mut.result.now.id) _ server.units.items c.args.unit u c.index_mut.result.now
+    (reach (g.C.CrqEnd.state c.args.crq.now) (g.R.WindowPort.state c.args.client.now) g.R.WindowPort.is_shared) words _
+    (seen_in g.R.WindowPort.is_shared (g.R.WindowPort.state c.turn.new.site.client.now)) c.turn.result there at
+    (c.turn.ensures.writes told heard is.serving words) calm)
+
+pub returns-clause-leaves : goal.returns-clause-leaves
+returns-clause-leaves g c = λ words u at calm.
+    let server = c.args.self.now in
+    let there : slice_get server.units.items c.args.unit ≡ Some c.index_mut.result.now =
+    slice_get_read server.units.items _ c.args.unit _ server.units.ok.0 c.requires.unit c.index_mut.ensures.value in
+    let lent = c.turn.ensures.advances.reached in
+    let queue = sym (ap g.C.CrqEnd.state (c.crq-1.given.1 (sym (ap (λ (lent : Lenders). lent.queue) lent)))) in
+    let client = sym (ap g.R.WindowPort.state (c.client-1.given.1 (sym (ap (λ (lent : Lenders). lent.client) lent)))) in
+    subst (λ (z : EndState × PortState). OnOk c.turn.result (LeavesOn u (g.C.CrqEnd.state c.args.crq.now) words z.0 z.1)) (λ i. (queue i, client i))
+    (unit_leaves _ server.units.items c.args.unit u c.index_mut.result.now
+    (reach (g.C.CrqEnd.state c.args.crq.now) (g.R.WindowPort.state c.args.client.now) g.R.WindowPort.is_shared) words
+    (g.C.CrqEnd.state c.turn.new.site.queue.now) (g.R.WindowPort.state c.turn.new.site.client.now) c.turn.result there at (c.turn.ensures.leaves words) calm)
+
+pub returns-clause-places : goal.returns-clause-places
+returns-clause-places g c = λ words u at calm.
+    let server = c.args.self.now in
+    let there : slice_get server.units.items c.args.unit ≡ Some c.index_mut.result.now =
+    slice_get_read server.units.items _ c.args.unit _ server.units.ok.0 c.requires.unit c.index_mut.ensures.value in
+    let client = sym (ap g.R.WindowPort.state (c.client-1.given.1 (sym (ap (λ (lent : Lenders). lent.client) c.turn.ensures.advances.reached)))) in
+    subst (λ (port : PortState). OnOk c.turn.result (WritesOn (stood (g.R.WindowPort.state c.args.client.now)) u (g.C.CrqEnd.state c.args.crq.now) words
+    (seen_in g.R.WindowPort.is_shared (g.R.WindowPort.state c.args.client.now)) (seen_in g.R.WindowPort.is_shared port))) client
+    (unit_writes (stood (g.R.WindowPort.state c.args.client.now)) _ server.units.items c.args.unit u c.index_mut.result.now
+    (reach (g.C.CrqEnd.state c.args.crq.now) (g.R.WindowPort.state c.args.client.now) g.R.WindowPort.is_shared) words _
+    (seen_in g.R.WindowPort.is_shared (g.R.WindowPort.state c.turn.new.site.client.now)) c.turn.result there at
+    (c.turn.ensures.places words) calm)

@@ -1,0 +1,74 @@
+-- What stands where a unit answered a request: the answer, and what that says.
+use Rattle.std.specs.Prelude.{◌≡◌, ◌≢◌, ◌+◌, ◌%◌, ◌++◌, ◌≤◌, ⊤, ℕ, true, List, [], ◌∷◌, length}
+use Rattle.vio_num.specs.Entry.{srp_entry}
+use Rattle.vio_num.specs.declared.entry.Entry.{Entry}
+use Rattle.vio_num.specs.declared.TheConstants.{PAGE_BYTES}
+use Rattle.crq_ring.specs.declared.rows.PipeRow.{PipeRow}
+use Rattle.crq_session.specs.Answered.{taken_now}
+use Rattle.crq_session.specs.EndState.{EndState}
+use Rattle.srp_iu.specs.declared.login.LoginReq.{LoginReq}
+use Rattle.tce_window.specs.PortState.{PortState}
+use Rattle.block_server.specs.Causes.{Hearing}
+use Rattle.block_server.specs.Causes.News.{fetched}
+use Rattle.block_server.specs.Responses.{Answers, GrantsLogin, RejectsLogin}
+use Rattle.block_server.specs.Talk.{HearsAll, IsReadWhole, StandAt, Suits, Talk, Word, talk_of}
+use Rattle.block_server.specs.declared.logins.Logins.{Logins}
+use Rattle.block_server.specs.declared.request.Order.{Order}
+use Rattle.block_server.specs.declared.request.Order.TheVariants as orders
+use Rattle.block_server.specs.declared.request.Request.{Request}
+use Rattle.block_server.specs.declared.service.Outcome.{Outcome}
+use Rattle.block_server.specs.declared.service.Outcome.TheVariants as outcomes
+use Rattle.block_server.specs.declared.service.Service.{Service}
+use Rattle.block_server.specs.declared.service.Stage.{Stage}
+use Rattle.block_server.specs.declared.service.Stage.TheVariants as stages
+use Rattle.block_server.specs.declared.unit.Unit.{Unit}
+
+-- These bytes, at least one, stand in a window at this address, if one entry has them all.
+abbrev pub Stands : PortState → (address : ℕ) → List ℕ → Type 0
+Stands client address bytes = (1 ≤ length bytes) × (address % PAGE_BYTES + length bytes ≤ PAGE_BYTES → StandAt client address bytes)
+
+-- what is known of a window by what stands in it alone: that a table which was fetched stood there
+abbrev pub stood : PortState → Hearing
+stood client (fetched address at bytes) = IsReadWhole client address bytes
+stood client news = ⊥
+
+-- The bytes are those of an answer to a request with this tag that asks this, which does this once its entry is put, where a login is
+-- granted so many requests.
+abbrev pub IsAnswerTo : (granted tag : ℕ) → Order → Outcome → List ℕ → Type 0
+IsAnswerTo granted tag order (outcomes.Granted number) bytes = (login : LoginReq) × (order ≡ orders.Login login) × GrantsLogin bytes login.tag granted
+IsAnswerTo granted tag order outcomes.Rejected bytes = (login : LoginReq) × (reason : ℕ) × (order ≡ orders.Login login) × RejectsLogin bytes login.tag reason
+IsAnswerTo granted tag order (outcomes.Served row) bytes = Answers bytes (λ r. (r.tag ≡ tag) × (r.delta ≡ 1))
+
+-- An answer at this stage is such a one, and is not yet copied.
+abbrev pub HasAnswerAt : (granted : ℕ) → Request → Stage → List ℕ → Type 0
+HasAnswerAt granted request (stages.Answer outcome) bytes = IsAnswerTo granted request.tag request.order outcome bytes
+HasAnswerAt granted request (stages.Entry outcome) bytes = ⊥
+HasAnswerAt granted request stage bytes = ⊤
+
+-- the same of a service
+abbrev pub HasAnswer : (granted : ℕ) → Request → Service → Type 0
+HasAnswer granted request service = HasAnswerAt granted request service.stage service.answer.items
+
+-- The entry was put last, if the partner's queue is registered.
+abbrev pub IsPutLast : EndState → Entry → Type 0
+IsPutLast queue entry = queue.place.partner_registered ≡ true → (front : List PipeRow) × (session : ℕ) × (queue.sent ≡ front ++ record { session = session; entry = entry } ∷ [])
+
+-- What is left of a request that was answered, which came at this address: the answer stands there, and the entry that says how long it
+-- is was put last.
+pub record LeavesAnswer (current granted address tag : ℕ) (order : Order) (queue : EndState) (client : PortState) : Type 0 where
+  pub outcome : Outcome
+  pub suits : Suits current order outcome
+  pub bytes : List ℕ
+  pub answer : IsAnswerTo granted tag order outcome bytes
+  pub put : IsPutLast queue (srp_entry (length bytes) tag)
+  pub stands : Stands client address bytes
+
+-- the same of a request, by the logins of its unit
+abbrev pub LeavesFirst : Logins → Request → EndState → PortState → Type 0
+LeavesFirst logins request queue client = LeavesAnswer logins.current logins.granted request.address request.tag request.order queue client
+
+-- What a turn in which nothing is amiss leaves of the first request that is pending once all was heard, but of a logout, which is not
+-- answered.
+pub record LeavesOn (unit : Unit) (old : EndState) (words : List Word) (queue : EndState) (client : PortState) : Type 0 where
+  pub leaves : (talk : Talk) (request : Request) (rest : List Request) → HearsAll (talk_of unit) (length (taken_now old)) words talk → talk.pending ≡ request ∷ rest
+      → request.order ≢ orders.Logout → LeavesAnswer talk.current talk.granted request.address request.tag request.order queue client
