@@ -44,6 +44,7 @@ response_more : (a b : Fronts) → HasFronts a b → (row : AnswerRow) → IsRes
 response_more a b more row is = record {
   response = is.response;
   canonical = is.canonical;
+  tag_is = is.tag_is;
   slot = is.slot;
   within = is.within;
   bytes = is.bytes;
@@ -67,10 +68,11 @@ responses_keep shared own own' answers answers' keeps same all =
     subst (AreResponsesRead (fronts_of own'.strokes)) (sym same) (responses_grow (side_at own) (side_at own') keeps.grows answers all)
 
 -- what a slot holds was read there
-held_read : (own : PortState) (slot : ℕ) (response : Response) (row : AnswerRow) → slot < SLOTS → Holds own slot (units.Rsp response) → Canon row.answer (units.Rsp response) → IsResponseRead (fronts_of own.strokes) row
-held_read own slot response row within holds canonical = record {
+held_read : (own : PortState) (slot : ℕ) (response : Response) (row : AnswerRow) → slot < SLOTS → response.tag ≡ row.tag → Holds own slot (units.Rsp response) → Canon row.answer (units.Rsp response) → IsResponseRead (fronts_of own.strokes) row
+held_read own slot response row within tagged holds canonical = record {
   response = response;
   canonical = canonical;
+  tag_is = tagged;
   slot = slot;
   within = within;
   bytes = holds.bytes;
@@ -99,4 +101,4 @@ noted_read s s' old new tag response answers answers' takes notes has all =
     let held = slot_held new.own response (slot_of tag takes.kept.outgoing) (λ slot. slot_within tag takes.kept.outgoing slot kept.requests) takes.judged.judged.2 in
     subst (AreResponsesRead (fronts_of new.own.strokes)) (sym notes.rows)
     (All-append (IsResponseRead (fronts_of new.own.strokes)) answers (notes.row ∷ []) all
-    (All-cons (IsResponseRead (fronts_of new.own.strokes)) notes.row [] (held_read new.own held.slot response notes.row held.within held.holds notes.canonical) (All-nil (IsResponseRead (fronts_of new.own.strokes)))))
+    (All-cons (IsResponseRead (fronts_of new.own.strokes)) notes.row [] (held_read new.own held.slot response notes.row held.within (takes.judged.judged.1 ∙ sym notes.tag_is) held.holds notes.canonical) (All-nil (IsResponseRead (fronts_of new.own.strokes)))))

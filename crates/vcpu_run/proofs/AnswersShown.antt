@@ -103,6 +103,7 @@ response_named : (front_at : Fronts) (client : UnitId) (row : AnswerRow) → IsR
 response_named front_at client row is = record {
   response = is.response;
   canonical = is.canonical;
+  tag_is = is.tag_is;
   slot = is.slot;
   within = is.within;
   bytes = is.bytes;

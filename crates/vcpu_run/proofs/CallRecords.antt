@@ -4,7 +4,7 @@ use Rattle.std.specs.List.{slice_get}
 use Rattle.boot_text.specs.declared.plan.Line.{Line}
 use Rattle.page_slots.specs.Stroke.{StrokeValue}
 use Rattle.tce_window.specs.Window.{strokes_at}
-use Rattle.unit_region.specs.RegionLines.{IsFrontOn, IsOn}
+use Rattle.unit_region.specs.RegionLines.{IsOn}
 use Rattle.unit_region.proofs.Laws.{on_as, on_cases}
 use Rattle.vio_trace.specs.declared.rows.LogRow.{LogRow}
 use Rattle.vcpu_run.specs.declared.pair.Pair.{Pair}
@@ -14,6 +14,7 @@ use Rattle.vcpu_run.specs.declared.unit_seat.Seat.{Seat}
 use Rattle.vcpu_run.specs.declared.unit_seat.Seat.TheVariants as sits
 use Rattle.vcpu_run.specs.CallsAnswered.{no_client, pair_of, unit_seen, unit_then}
 use Rattle.vcpu_run.specs.CallsSaid.{CallsSaid, IsSaidOf, seen_from, seen_then}
+use Rattle.vio_trace.specs.declared.window_rows.CopyRow.{CopyRow}
 use Rattle.vcpu_run.specs.ClientStrokes.{LineLays, LogsStrokes, NoneLay, PairLays}
 use Rattle.vcpu_run.specs.Machines.{AllStay, Stays}
 use Rattle.vcpu_run.specs.Moments.{AreInTurn}
@@ -97,8 +98,8 @@ pub calls_waits : (old new : List Pair) (script : Script) (progress : Progress) 
 calls_waits old new script progress line found turn reached stay lays = calls_on old new script stay (lays_now old new script line found turn reached lays)
 
 -- the strokes of a client in its own region are of lines up to the current one
-up_to_now : (old new : List Pair) (script : Script) (line : Line) → slice_get script.lines.now script.at ≡ Some line → AreInTurn script.lines.now script.logs.items script.at
-    → length script.logs.items ≡ script.at → LineLays script.seats.items line old new → LogsStrokes old script
+up_to_now : {copies : ℕ → List CopyRow} (old new : List Pair) (script : Script) (line : Line) → slice_get script.lines.now script.at ≡ Some line → AreInTurn script.lines.now script.logs.items script.at
+    → length script.logs.items ≡ script.at → LineLays script.seats.items line old new → LogsStrokes copies old script
     → (unit k : ℕ) (before after : Pair) → slice_get script.seats.items unit ≡ Some (sits.Client k) → slice_get old k ≡ Some before → slice_get new k ≡ Some after
     → before.window.unit ≡ unit_of script.partition unit
     → (page : ℕ) (stroke : StrokeValue) → IsOn stroke (strokes_at after.window.pages page) → stroke.name.who ≡ after.window.unit → stroke.name.mark ≤ line.number
@@ -128,8 +129,8 @@ up_to_now old new script line found turn reached lays strokes unit k before afte
     by (inr now) = omega (arith, now.1)
 
 -- what there is now is what there was as the line ended
-seen_now : (old new : List Pair) (script : Script) (line : Line) → slice_get script.lines.now script.at ≡ Some line → AreInTurn script.lines.now script.logs.items script.at
-    → length script.logs.items ≡ script.at → AllStay old new → LineLays script.seats.items line old new → LogsStrokes old script → AreOfClients old script
+seen_now : {copies : ℕ → List CopyRow} (old new : List Pair) (script : Script) (line : Line) → slice_get script.lines.now script.at ≡ Some line → AreInTurn script.lines.now script.logs.items script.at
+    → length script.logs.items ≡ script.at → AllStay old new → LineLays script.seats.items line old new → LogsStrokes copies old script → AreOfClients old script
     → UnitsGrow (seen_from script.partition script.seats.items new) (seen_then line.number script.partition script.seats.items new)
 seen_now old new script line found turn reached stay lays strokes are = record { place = refl; units = λ unit. at unit (slice_get script.seats.items unit) refl }
   where
@@ -162,9 +163,9 @@ seen_now old new script line found turn reached stay lays strokes are = record {
     at unit (Some (sits.Client k)) e = pair_now unit k e (slice_get old k) (slice_get new k) refl refl (laid k (slice_get new k) refl)
 
 -- the current line ended
-pub calls_ends : (old new : List Pair) (script ended : Script) (line : Line) (row : LogRow) → slice_get script.lines.now script.at ≡ Some line
+pub calls_ends : {copies : ℕ → List CopyRow} (old new : List Pair) (script ended : Script) (line : Line) (row : LogRow) → slice_get script.lines.now script.at ≡ Some line
     → AreInTurn script.lines.now script.logs.items script.at → length script.logs.items ≡ script.at → AllStay old new → LineLays script.seats.items line old new
-    → LogsStrokes old script → IsSaidOf (seen_from script.partition script.seats.items new) line.verb row.outcome
+    → LogsStrokes copies old script → IsSaidOf (seen_from script.partition script.seats.items new) line.verb row.outcome
     → ended.partition ≡ script.partition → ended.lines ≡ script.lines → ended.seats ≡ script.seats → ended.logs.items ≡ script.logs.items ++ row ∷ []
     → LogsCalls old script → LogsCalls new ended
 calls_ends old new script ended line row found turn reached stay lays strokes said partition lines seats logs calls are =

@@ -29,6 +29,7 @@ use Rattle.vio_trace.specs.declared.outcome.Outcome.{Outcome}
 use Rattle.vio_trace.specs.declared.outcome.Outcome.TheVariants as outcomes
 use Rattle.vio_trace.specs.declared.rows.LogRow.{LogRow}
 use Rattle.vio_trace.specs.declared.rows.Trace.{Trace}
+use Rattle.vcpu_run.specs.CopiesCounted.{copies_at}
 use Rattle.vcpu_run.specs.declared.driver.Driver.{Driver}
 use Rattle.vcpu_run.specs.declared.pair.Pair.{Pair}
 use Rattle.vcpu_run.specs.declared.script.Script.{Script}
@@ -156,7 +157,7 @@ no_line line e = cc
 
 pub calls_are : (pairs : List Pair) (scripts : List Script) (lan : LanValue) (lan_rows : LanRows) (history : List Served) (grants : List Grant) (copies : List CopyRecord) (partitions : List Partition)
     → AreOfOneHome copies pairs → AreScripts pairs lan.seats scripts → All (HasLawfulQueue pairs) (seats_of scripts) → All (HasLawfulWindow pairs lan) (seats_of scripts)
-    → IsOfPlan partitions pairs scripts lan.seats → AreCredited pairs scripts → PortsTell lan scripts
+    → IsOfPlan partitions pairs scripts lan.seats → AreCredited (copies_at copies pairs) pairs scripts → PortsTell lan scripts
     → CallsAreSaid partitions (trace_of pairs scripts lan lan_rows history grants copies)
 calls_are pairs scripts lan lan_rows history grants copies partitions home are lawful windows of_plan credited tells p = at (slice_get scripts p) refl
   where

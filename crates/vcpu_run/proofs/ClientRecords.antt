@@ -1,5 +1,5 @@
 -- What turns leave of the records of clients: the strokes that these laid in their own regions, and what their lines said of them.
-use Rattle.std.proofs.Common.{◌≡◌, ◌∙◌, ◌⊎◌, inl, inr, ℕ, ◌<◌, ◌++◌, Bool, true, false, Err, List, [], ◌∷◌, Option, Some, None, IfOk, IsSome, IsSomeAnd, Ok, Result, length, slice_get, slice_set, refl, sym, ap, subst, arith}
+use Rattle.std.proofs.Common.{◌≡◌, ◌∙◌, ◌⊎◌, inl, inr, ℕ, ◌<◌, ◌≤◌, ◌++◌, Bool, true, false, Err, List, [], ◌∷◌, Option, Some, None, IfOk, IfSome, IsSome, IsSomeAnd, Ok, Result, length, slice_get, slice_set, refl, sym, ap, subst, arith}
 use Rattle.std.proofs.lemmas.Option.{slice_get_within}
 use Rattle.vio_num.specs.declared.hypervisor.Moved.{Moved}
 use Rattle.vio_num.specs.declared.memory.NoMemory.{NoMemory}
@@ -18,6 +18,7 @@ use Rattle.unit_region.specs.declared.step.Step.{Step}
 use Rattle.unit_region.specs.declared.step.Step.TheVariants as steps
 use Rattle.unit_region.proofs.Laws.{on_as, on_cases, with_none}
 use Rattle.vio_trace.specs.declared.rows.LogRow.{LogRow}
+use Rattle.vscsi_client.specs.Transferred.{DataRange}
 use Rattle.lan_script.specs.Seats.{is_in_region}
 use Rattle.lan_script.proofs.Laws.{not_told}
 use Rattle.vcpu_run.specs.declared.driver.Driver.{Driver}
@@ -28,7 +29,13 @@ use Rattle.vcpu_run.specs.declared.unit_seat.Seat.{Seat}
 use Rattle.vcpu_run.specs.declared.unit_seat.Seat.TheVariants as sits
 use Rattle.vcpu_run.specs.ClientMoments.{LineStepped, PairStepped, RegionStepped, SeatStepped, StepsInRegion}
 use Rattle.vcpu_run.specs.ClientStrokes.{AreBare, KeepsOwn, LineLays, LogsStrokes, NoneLay, PairLays, PairLaysNone, PairRecords}
-use Rattle.vcpu_run.specs.LinesRead.{ClientLines, LineRead}
+use Rattle.vio_trace.specs.declared.window_rows.CopyRow.{CopyRow}
+use Rattle.vcpu_run.specs.StrokeMakers.{named_rows}
+use Rattle.vcpu_run.specs.CopiesCounted.{AllMadeBy, AreMadeBy, named_by}
+use Rattle.vcpu_run.specs.Agreed.{OnDrivers}
+use Rattle.vcpu_run.specs.DataNoted.{HasNoted, PairNoted}
+use Rattle.vcpu_run.specs.NotedOn.{AllKeepNoted, KeepsNoted}
+use Rattle.vcpu_run.specs.LinesRead.{AreKept, Asked, ClientLines, IsAskedBefore, IsLineRead, LineRead, PairRead, asked_by}
 use Rattle.vcpu_run.specs.Moments.{AreInTurn}
 use Rattle.vcpu_run.specs.PortRegions.{IsCurrent, IsLogged}
 use Rattle.vcpu_run.specs.Ports.{unit_of}
@@ -38,7 +45,10 @@ use Rattle.vcpu_run.specs.ScriptTold.{SameClient, SameClients}
 use Rattle.vcpu_run.proofs.ClientsLay.{line_lays_none}
 use Rattle.vcpu_run.proofs.Crediting.{one_seat}
 use Rattle.vcpu_run.proofs.Driving.{get_set_same, some_is}
-use Rattle.vcpu_run.proofs.LinesRead.{client_fresh, client_grown, client_one}
+use Rattle.vcpu_run.proofs.LinesRead.{client_counted, client_fresh, client_grown, client_one, read_fewer}
+use Rattle.vcpu_run.specs.Machines.{AllStay}
+use Rattle.vcpu_run.proofs.DataNoted.{asked_kept, keep_clients, pair_kept_none, pair_kept_on, pair_kept_one, pair_noted_on, server_of}
+use Rattle.vcpu_run.proofs.CopiesCounted.{counted_more, made_all}
 use Rattle.vcpu_run.proofs.PortLines.{has_place, logged_less, logged_most, numbers_rise}
 use Rattle.vcpu_run.proofs.PortLogged.{logged_last, logged_more}
 
@@ -108,22 +118,26 @@ keeps_gains unit old new named keeps page =
     subst (λ (id : UnitId). IsFrontOn id (λ m. ⊥) (strokes_at old.window.pages page) (strokes_at new.window.pages page)) named (keeps page)
 
 -- what was told is so of a region with more strokes, which are of no earlier line
-more_told : (lines : List Line) (rows : List LogRow) (unit : UnitId) (allowed : ℕ → Type 0) (old new : Pair) → length new.window.pages ≡ length old.window.pages
+more_told : (copies : List CopyRow) (lines : List Line) (rows : List LogRow) (unit : UnitId) (allowed : ℕ → Type 0) (old new : Pair) → new.server ≡ old.server
+    → length new.window.pages ≡ length old.window.pages
     → ((i : ℕ) (l : Line) (r : LogRow) → slice_get lines i ≡ Some l → slice_get rows i ≡ Some r → (m : ℕ) → allowed m → l.number < m) → Gains unit allowed old new
-    → ClientLines (strokes_at old.window.pages) (length old.window.pages) unit lines rows
-    → ClientLines (strokes_at new.window.pages) (length new.window.pages) unit lines rows
-more_told lines rows unit allowed old new size later gains told =
-    subst (λ n. ClientLines (strokes_at new.window.pages) n unit lines rows) (sym size)
-    (client_grown (strokes_at old.window.pages) (strokes_at new.window.pages) (length old.window.pages) unit lines rows
+    → ClientLines old.server (strokes_at old.window.pages) (length old.window.pages) unit lines rows (length copies) (named_by unit copies)
+    → ClientLines new.server (strokes_at new.window.pages) (length new.window.pages) unit lines rows (length copies) (named_by unit copies)
+more_told copies lines rows unit allowed old new server size later gains told =
+    subst (λ (u : UnitId). ClientLines u (strokes_at new.window.pages) (length new.window.pages) unit lines rows (length copies) (named_by unit copies)) (sym server)
+    (subst (λ n. ClientLines old.server (strokes_at new.window.pages) n unit lines rows (length copies) (named_by unit copies)) (sym size)
+    (client_grown old.server (strokes_at old.window.pages) (strokes_at new.window.pages) (length old.window.pages) unit lines rows (length copies) (named_by unit copies)
     (λ i l r there has page.
-    on_as unit allowed (λ m. l.number < m) (strokes_at old.window.pages page) (strokes_at new.window.pages page) (later i l r there has) (gains page)) told)
+    on_as unit allowed (λ m. l.number < m) (strokes_at old.window.pages page) (strokes_at new.window.pages page) (later i l r there has) (gains page)) told))
 
 -- nothing of the unit's own was laid
-records_still : (lines : List Line) (rows : List LogRow) (at : ℕ) (unit : UnitId) (old new : Pair) → length new.window.pages ≡ length old.window.pages
-    → Gains unit (λ m. ⊥) old new → PairRecords lines rows at unit old → PairRecords lines rows at unit new
-records_still lines rows at unit old new size gains is = record {
+records_still : (copies : List CopyRow) (lines : List Line) (rows : List LogRow) (at : ℕ) (unit : UnitId) (old new : Pair) → new.server ≡ old.server
+    → OnDrivers old.driver new.driver KeepsNoted → length new.window.pages ≡ length old.window.pages → Gains unit (λ m. ⊥) old new → PairRecords copies lines rows at unit old → PairRecords copies lines rows at unit new
+records_still copies lines rows at unit old new server keeps size gains is = record {
+  noted = pair_noted_on old new server keeps is.noted;
+  kept = pair_kept_on unit.unit lines rows old new keeps is.noted is.kept;
   logged = λ page stroke on own. by page stroke own (on_cases unit (λ m. ⊥) (strokes_at old.window.pages page) (strokes_at new.window.pages page) stroke (gains page) on own);
-  told = more_told lines rows unit (λ m. ⊥) old new size (λ i l r there has m never. absurd never) gains is.told;
+  told = more_told copies lines rows unit (λ m. ⊥) old new server size (λ i l r there has m never. absurd never) gains is.told;
 }
   where
     by : (page : ℕ) (stroke : StrokeValue) → stroke.name.who ≡ unit → IsOn stroke (strokes_at old.window.pages page) ⊎ ⊥
@@ -133,46 +147,53 @@ records_still lines rows at unit old new size gains is = record {
 
 -- ---- the clients of a script
 
-pub logs_bare : (pairs : List Pair) (script : Script) → script.logs.items ≡ [] → AreBare pairs → LogsStrokes pairs script
-logs_bare pairs script none bare unit k pair here there named = record {
+pub logs_bare : (copies : ℕ → List CopyRow) (pairs : List Pair) (script : Script) → script.logs.items ≡ [] → AreBare pairs → ((k : ℕ) (pair : Pair) → slice_get pairs k ≡ Some pair → PairNoted pair) → LogsStrokes copies pairs script
+logs_bare copies pairs script none bare noted unit k pair here there named = record {
+  noted = noted k pair there;
+  kept = pair_kept_none unit script.lines.now script.logs.items pair none;
   logged = λ page stroke on own. absurd (bare k pair there page stroke on);
-  told = subst (λ (rows : List LogRow). ClientLines (strokes_at pair.window.pages) (length pair.window.pages) (unit_of script.partition unit) script.lines.now rows) (sym none)
-      (client_fresh (strokes_at pair.window.pages) (length pair.window.pages) (unit_of script.partition unit) script.lines.now);
+  told = subst (λ (rows : List LogRow). ClientLines pair.server (strokes_at pair.window.pages) (length pair.window.pages) (unit_of script.partition unit) script.lines.now rows
+      (length (copies k)) (named_by (unit_of script.partition unit) (copies k))) (sym none)
+      (client_fresh pair.server (strokes_at pair.window.pages) (length pair.window.pages) (unit_of script.partition unit) script.lines.now (length (copies k))
+      (named_by (unit_of script.partition unit) (copies k)));
 }
 
-pub logs_else : (old new : List Pair) (script : Script)
+pub logs_else : (copies : ℕ → List CopyRow) (old new : List Pair) (script : Script)
     → ((unit k : ℕ) → slice_get script.seats.items unit ≡ Some (sits.Client k) → slice_get new k ≡ slice_get old k)
-    → LogsStrokes old script → LogsStrokes new script
-logs_else old new script same is unit k pair here there = is unit k pair here (sym (same unit k here) ∙ there)
+    → LogsStrokes copies old script → LogsStrokes copies new script
+logs_else copies old new script same is unit k pair here there = is unit k pair here (sym (same unit k here) ∙ there)
 
-pub logs_still : (old new : List Pair) (script : Script) → NoneLay old new → LogsStrokes old script → LogsStrokes new script
-logs_still old new script lays is unit k after here there named = by (slice_get old k) refl (lays k after there)
+pub logs_still : (copies : ℕ → List CopyRow) (old new : List Pair) (script : Script) → AllStay old new → AllKeepNoted old new → NoneLay old new
+    → LogsStrokes copies old script → LogsStrokes copies new script
+logs_still copies old new script stay keep lays is unit k after here there named = by (slice_get old k) refl (lays k after there)
   where
     id : UnitId
     id = unit_of script.partition unit
 
     by : (o : Option Pair) → slice_get old k ≡ o → IsSomeAnd o (λ before. PairLaysNone before after)
-        → PairRecords script.lines.now script.logs.items script.at id after
+        → PairRecords (copies k) script.lines.now script.logs.items script.at id after
     by None e h = absurd h
     by (Some before) e h =
         let was : before.window.unit ≡ id = sym h.unit ∙ named in
-        records_still script.lines.now script.logs.items script.at id before after h.pages
+        records_still (copies k) script.lines.now script.logs.items script.at id before after (server_of old new stay k before after e there) (keep k before after e there) h.pages
         (λ page.
         on_as id (λ m. ⊥ × (m ≡ 0)) (λ m. ⊥) (strokes_at before.window.pages page) (strokes_at after.window.pages page) (λ m never. never.0) (lays_gains ⊥ 0 id before after was h page))
         (is unit k before here e was)
 
-pub logs_served : (old new : List Pair) (script : Script) → SameClients old new → LogsStrokes old script → LogsStrokes new script
-logs_served old new script same is unit k after here there named = by (slice_get old k) refl (same k after there)
+pub logs_served : (copies : ℕ → List CopyRow) (old new : List Pair) (script : Script) → AllStay old new → SameClients old new → LogsStrokes copies old script
+    → LogsStrokes copies new script
+logs_served copies old new script stay same is unit k after here there named = by (slice_get old k) refl (same k after there)
   where
     id : UnitId
     id = unit_of script.partition unit
 
     by : (o : Option Pair) → slice_get old k ≡ o → IsSomeAnd o (λ before. SameClient before after)
-        → PairRecords script.lines.now script.logs.items script.at id after
+        → PairRecords (copies k) script.lines.now script.logs.items script.at id after
     by None e h = absurd h
     by (Some before) e h =
         let was : before.window.unit ≡ id = sym h.unit ∙ named in
-        records_still script.lines.now script.logs.items script.at id before after h.pages (keeps_gains id before after was h.own) (is unit k before here e was)
+        records_still (copies k) script.lines.now script.logs.items script.at id before after (server_of old new stay k before after e there)
+        (keep_clients old new same k before after e there) h.pages (keeps_gains id before after was h.own) (is unit k before here e was)
 
 -- the unit of the current line sits where the client does
 line_unit : (old : List Pair) (script : Script) (line : Line) (unit k : ℕ) → AreSeats script.partition script.seats.items old
@@ -184,11 +205,11 @@ waited : (line : Line) (did : Moved) (page : ℕ) (before after : Pair) → Step
     → strokes_at after.window.pages page ≡ strokes_at before.window.pages page
 waited line did page before after step = step.lays refl page ∙ with_none (strokes_at before.window.pages page)
 
-pub logs_waits : (old new : List Pair) (script : Script) (progress : Progress) (line : Line) (did : Moved) → slice_get script.lines.now script.at ≡ Some line
+pub logs_waits : (copies : ℕ → List CopyRow) (old new : List Pair) (script : Script) (progress : Progress) (line : Line) (did : Moved) → slice_get script.lines.now script.at ≡ Some line
     → AreInTurn script.lines.now script.logs.items script.at → length script.logs.items ≡ script.at → AreSeats script.partition script.seats.items old
-    → LineLays script.seats.items line old new → LineStepped script.seats.items line old new (Ok (steps.Waits did)) → LogsStrokes old script
-    → LogsStrokes new (record script { progress = progress })
-logs_waits old new script progress line did found turn reached are lays steps is unit k after here there named = by (slice_get old k) refl (lays k after there)
+    → AllStay old new → AllKeepNoted old new → LineLays script.seats.items line old new → LineStepped script.seats.items line old new (Ok (steps.Waits did)) → LogsStrokes copies old script
+    → LogsStrokes copies new (record script { progress = progress })
+logs_waits copies old new script progress line did found turn reached are stay keep lays steps is unit k after here there named = by (slice_get old k) refl (lays k after there)
   where
     id : UnitId
     id = unit_of script.partition unit
@@ -203,11 +224,13 @@ logs_waits old new script progress line did found turn reached are lays steps is
         omega (arith, less, mine.1)
 
     by : (o : Option Pair) → slice_get old k ≡ o → IsSomeAnd o (λ before. PairLays Mine line.number before after)
-        → PairRecords script.lines.now script.logs.items script.at id after
+        → PairRecords (copies k) script.lines.now script.logs.items script.at id after
     by None e h = absurd h
     by (Some before) e h = record {
+      noted = pair_noted_on before after (server_of old new stay k before after e there) (keep k before after e there) before_is.noted;
+      kept = pair_kept_on unit script.lines.now script.logs.items before after (keep k before after e there) before_is.noted before_is.kept;
       logged = λ page stroke on own. at page stroke own on (on_cases id (λ m. Mine × (m ≡ line.number)) (strokes_at before.window.pages page) (strokes_at after.window.pages page) stroke (gains page) on own);
-      told = more_told script.lines.now script.logs.items id (λ m. Mine × (m ≡ line.number)) before after h.pages later gains before_is.told;
+      told = more_told (copies k) script.lines.now script.logs.items id (λ m. Mine × (m ≡ line.number)) before after (server_of old new stay k before after e there) h.pages later gains before_is.told;
     }
       where
         was : before.window.unit ≡ id
@@ -216,7 +239,7 @@ logs_waits old new script progress line did found turn reached are lays steps is
         gains : (page : ℕ) → IsFrontOn id (λ m. Mine × (m ≡ line.number)) (strokes_at before.window.pages page) (strokes_at after.window.pages page)
         gains = lays_gains Mine line.number id before after was h
 
-        before_is : PairRecords script.lines.now script.logs.items script.at id before
+        before_is : PairRecords (copies k) script.lines.now script.logs.items script.at id before
         before_is = is unit k before here e was
 
         apart : (page : ℕ) (stroke : StrokeValue) → Mine × (stroke.name.mark ≡ line.number) → stroke.name.who ≡ id → IsOn stroke (strokes_at after.window.pages page)
@@ -236,17 +259,27 @@ some_driver : (P : Driver → Type 0) (o : Option Driver) → IsSomeAnd o P → 
 some_driver P None is = absurd is
 some_driver P (Some driver) is = refl
 
+some_both : (P : Driver → Type 0) (o : Option Driver) → IsSome o → IfSome o P → IsSomeAnd o P
+some_both P None some is = absurd (cc (some))
+some_both P (Some driver) some is = is
+
+-- where a command with data-in is to lie that an earlier line sent, its client keeps
+kept_where : (unit : ℕ) (lines : List Line) (rows : List LogRow) (row : LogRow) (i tag : ℕ) (whole : DataRange) (o : Option Driver) → i ≤ length rows → IsSome o
+    → IfSome o (λ driver. AreKept unit lines rows driver.client.rows) → IsAskedBefore unit lines (rows ++ row ∷ []) i tag whole → asked_by o tag whole
+kept_where unit lines rows row i tag whole None few some kept is = absurd (cc (some))
+kept_where unit lines rows row i tag whole (Some driver) few some kept is = asked_kept unit lines rows row driver.client.rows i tag whole few kept is
+
 -- the current line ended
-pub logs_ends : (old new : List Pair) (script ended : Script) (line : Line) (row : LogRow) → slice_get script.lines.now script.at ≡ Some line
+pub logs_ends : (copies : ℕ → List CopyRow) (old new : List Pair) (script ended : Script) (line : Line) (row : LogRow) → slice_get script.lines.now script.at ≡ Some line
     → AreInTurn script.lines.now script.logs.items script.at → length script.logs.items ≡ script.at → AreSeats script.partition script.seats.items old
-    → LineLays script.seats.items line old new → LineStepped script.seats.items line old new (Ok (steps.Ends row.outcome))
-    → LineRead script.seats.items line old new row.outcome
+    → AllStay old new → AllKeepNoted old new → LineLays script.seats.items line old new → LineStepped script.seats.items line old new (Ok (steps.Ends row.outcome))
+    → LineRead script.seats.items line old new row.outcome → AllMadeBy copies new
     → ended.partition ≡ script.partition → ended.lines ≡ script.lines → ended.seats ≡ script.seats → ended.logs.items ≡ script.logs.items ++ row ∷ []
-    → LogsStrokes old script → LogsStrokes new ended
-logs_ends old new script ended line row found turn reached are lays stepped answered partition lines seats logs is unit k after here' there named' =
-    subst (λ (p : ℕ). PairRecords ended.lines.now ended.logs.items ended.at (unit_of p unit) after) (sym partition)
-    (subst (λ ls. PairRecords ls.now ended.logs.items ended.at id after) (sym lines)
-    (subst (λ (rows : List LogRow). PairRecords script.lines.now rows ended.at id after) (sym logs) (by (slice_get old k) refl (lays k after there))))
+    → LogsStrokes copies old script → LogsStrokes copies new ended
+logs_ends copies old new script ended line row found turn reached are stay keep lays stepped answered made partition lines seats logs is unit k after here' there named' =
+    subst (λ (p : ℕ). PairRecords (copies k) ended.lines.now ended.logs.items ended.at (unit_of p unit) after) (sym partition)
+    (subst (λ ls. PairRecords (copies k) ls.now ended.logs.items ended.at id after) (sym lines)
+    (subst (λ (rows : List LogRow). PairRecords (copies k) script.lines.now rows ended.at id after) (sym logs) (by (slice_get old k) refl (lays k after there))))
   where
     id : UnitId
     id = unit_of script.partition unit
@@ -284,12 +317,15 @@ logs_ends old new script ended line row found turn reached are lays stepped answ
         absurd (both_ways (is_in_region line.verb) region (sym (ap (λ (l : Line). is_in_region l.verb) same) ∙ current.apart))
 
     by : (o : Option Pair) → slice_get old k ≡ o → IsSomeAnd o (λ before. PairLays Mine line.number before after)
-        → PairRecords script.lines.now (script.logs.items ++ row ∷ []) ended.at id after
+        → PairRecords (copies k) script.lines.now (script.logs.items ++ row ∷ []) ended.at id after
     by None e h = absurd h
     by (Some before) e h = record {
+      noted = pair_noted_on before after (server_of old new stay k before after e there) (keep k before after e there) before_is.noted;
+      kept = pair_kept_one unit script.lines.now script.logs.items line row after next
+          (pair_kept_on unit script.lines.now script.logs.items before after (keep k before after e there) before_is.noted before_is.kept) (λ own. (read own).keeps);
       logged = λ page stroke on own. inl (now page stroke on own);
-      told = client_one (strokes_at after.window.pages) (length after.window.pages) id script.lines.now script.logs.items line row next
-          (more_told script.lines.now script.logs.items id (λ m. Mine × (m ≡ line.number)) before after h.pages later gains before_is.told)
+      told = client_one after.server (strokes_at after.window.pages) (length after.window.pages) id script.lines.now script.logs.items line row (length (copies k)) (named_by id (copies k)) next
+          (more_told (copies k) script.lines.now script.logs.items id (λ m. Mine × (m ≡ line.number)) before after (server_of old new stay k before after e there) h.pages later gains before_is.told)
           (record {
             earlier = λ page stroke on own. logged_most script.lines.now script.logs.items row script.at line id stroke.name.mark turn found reached (now page stroke on own);
             told = λ own. says own (is_in_region line.verb) refl;
@@ -300,7 +336,11 @@ logs_ends old new script ended line row found turn reached are lays stepped answ
               earlier = λ stroke on mine. before_it stroke.name.mark region (before_is.logged page stroke on mine);
             };
           })
-          (λ own. answered k before after (ap (λ n. slice_get script.seats.items n) own ∙ here) e there (has_driver before e));
+          (λ own.
+          subst (λ (u : UnitId). IsLineRead u (strokes_at after.window.pages) asked line.verb row.outcome) (sym (server_of old new stay k before after e there))
+          (read_fewer before.server (strokes_at after.window.pages) (asked_by before.driver) asked line.verb row.outcome kept_of (read own).reads))
+          (made_all id (strokes_at after.window.pages) (copies k)
+          (subst (λ (u : UnitId). AreMadeBy u (strokes_at after.window.pages) (λ page. named_rows u page (copies k))) named (made k after there)));
     }
       where
         was : before.window.unit ≡ id
@@ -309,13 +349,24 @@ logs_ends old new script ended line row found turn reached are lays stepped answ
         gains : (page : ℕ) → IsFrontOn id (λ m. Mine × (m ≡ line.number)) (strokes_at before.window.pages page) (strokes_at after.window.pages page)
         gains = lays_gains Mine line.number id before after was h
 
-        before_is : PairRecords script.lines.now script.logs.items script.at id before
+        before_is : PairRecords (copies k) script.lines.now script.logs.items script.at id before
         before_is = is unit k before here e was
 
         has_driver : (pair : Pair) → slice_get old k ≡ Some pair → IsSome pair.driver
         has_driver pair at =
             some_driver (λ driver. driver.unit ≡ record { partition = script.partition; unit = unit }) pair.driver
             (subst (λ (o : Option Pair). IsSomeAnd o (λ (p : Pair). IsSomeAnd p.driver (λ driver. driver.unit ≡ record { partition = script.partition; unit = unit }))) at (are unit k here))
+
+        read : line.unit ≡ unit → PairRead line before after row.outcome
+        read own =
+            answered k before after (ap (λ n. slice_get script.seats.items n) own ∙ here) e there (some_both (HasNoted before.server) before.driver (has_driver before e) before_is.noted)
+
+        asked : Asked
+        asked = IsAskedBefore unit script.lines.now (script.logs.items ++ row ∷ []) (length script.logs.items)
+
+        kept_of : (tag : ℕ) (whole : DataRange) → asked tag whole → asked_by before.driver tag whole
+        kept_of tag whole is =
+            kept_where unit script.lines.now script.logs.items row (length script.logs.items) tag whole before.driver (omega arith) (has_driver before e) before_is.kept is
 
         step : line.unit ≡ unit → is_in_region line.verb ≡ true → StepsInRegion false line (known_of before.window) (known_of after.window) (steps.Ends row.outcome)
         step own region = stepped k (ap (λ n. slice_get script.seats.items n) own ∙ here) before after e there region
@@ -335,11 +386,27 @@ logs_ends old new script ended line row found turn reached are lays stepped answ
         says own false region = not_told (region_seen (strokes_at after.window.pages)) (length after.window.pages) id line.number line.verb row.outcome region
 
 -- the same of a line that lays none, and is not one in the region
-pub logs_ends_none : (old new : List Pair) (script ended : Script) (line : Line) (row : LogRow) → slice_get script.lines.now script.at ≡ Some line
+pub logs_ends_none : (copies : ℕ → List CopyRow) (old new : List Pair) (script ended : Script) (line : Line) (row : LogRow) → slice_get script.lines.now script.at ≡ Some line
     → AreInTurn script.lines.now script.logs.items script.at → length script.logs.items ≡ script.at → AreSeats script.partition script.seats.items old
-    → NoneLay old new → is_in_region line.verb ≡ false → LineRead script.seats.items line old new row.outcome
+    → AllStay old new → AllKeepNoted old new → NoneLay old new → is_in_region line.verb ≡ false → LineRead script.seats.items line old new row.outcome → AllMadeBy copies new
     → ended.partition ≡ script.partition → ended.lines ≡ script.lines → ended.seats ≡ script.seats → ended.logs.items ≡ script.logs.items ++ row ∷ []
-    → LogsStrokes old script → LogsStrokes new ended
-logs_ends_none old new script ended line row found turn reached are lays apart answered =
-    logs_ends old new script ended line row found turn reached are (line_lays_none script.seats.items line old new lays)
-    (line_apart script.seats.items line old new (Ok (steps.Ends row.outcome)) apart) answered
+    → LogsStrokes copies old script → LogsStrokes copies new ended
+logs_ends_none copies old new script ended line row found turn reached are stay keep lays apart answered made =
+    logs_ends copies old new script ended line row found turn reached are stay keep (line_lays_none script.seats.items line old new lays)
+    (line_apart script.seats.items line old new (Ok (steps.Ends row.outcome)) apart) answered made
+
+-- more copies were made
+pub logs_copied : (copies copies' : ℕ → List CopyRow) (pairs : List Pair) (script : Script) → ((k : ℕ) → (more : List CopyRow) × (copies' k ≡ copies k ++ more))
+    → LogsStrokes copies pairs script → LogsStrokes copies' pairs script
+logs_copied copies copies' pairs script grow is unit k pair here there named =
+    let was = is unit k pair here there named in
+    let id : UnitId = unit_of script.partition unit in
+    let more = grow k in
+    subst (λ (list : List CopyRow). PairRecords list script.lines.now script.logs.items script.at id pair) (sym more.1)
+    (record {
+      logged = was.logged;
+      noted = was.noted;
+      kept = was.kept;
+      told = client_counted pair.server (strokes_at pair.window.pages) (length pair.window.pages) id script.lines.now script.logs.items (length (copies k)) (length (copies k ++ more.0))
+          (named_by id (copies k)) (named_by id (copies k ++ more.0)) (λ had. counted_more id had script.logs.items (copies k) more.0) was.told;
+    })

@@ -161,7 +161,7 @@ told_next seen own e xs server told last = λ x there. at x (contains_split own 
     at x (inr same) = subst (λ (y : Ended). IsLineGiven seen server (own ++ e ∷ []) xs (given_by y.verb) y.outcome) (sym same) last
 
 -- where the data of the commands lie that lines sent
-kept_as : (rs rs' : List Row) (range : Option DataRange) (outcome : Outcome) → ((tag at len : ℕ) → IsInwardAt rs tag at len → IsInwardAt rs' tag at len) → IsKeptAt rs range outcome
+pub kept_as : (rs rs' : List Row) (range : Option DataRange) (outcome : Outcome) → ((tag at len : ℕ) → IsInwardAt rs tag at len → IsInwardAt rs' tag at len) → IsKeptAt rs range outcome
     → IsKeptAt rs' range outcome
 kept_as rs rs' range (outcomes.Granted credits) stay is = tt
 kept_as rs rs' range (outcomes.Rejected reason) stay is = tt

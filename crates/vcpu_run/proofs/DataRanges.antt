@@ -6,6 +6,7 @@ use Rattle.boot_text.specs.declared.verb.Verb.{Verb}
 use Rattle.boot_text.specs.declared.verb.Verb.TheVariants as verbs
 use Rattle.vio_trace.specs.declared.outcome.Outcome.{Outcome}
 use Rattle.vio_trace.specs.declared.outcome.Outcome.TheVariants as outcomes
+use Rattle.vio_trace.specs.declared.rows.AnswerRow.{AnswerRow}
 use Rattle.vscsi_client.specs.State.{ClientState}
 use Rattle.vscsi_client.specs.Transferred.{DataRange, data_of_row, data_range, transferred}
 use Rattle.vscsi_client.specs.declared.op.Dir.TheVariants as dirs
@@ -15,7 +16,7 @@ use Rattle.vscsi_client.specs.declared.row.Row.TheVariants as rows
 use Rattle.vcpu_run.specs.declared.driver.Driver.{Driver}
 use Rattle.vcpu_run.specs.AnswersTaken.{TakesNow, answered_tags, has_tag, no_takes, reads_in, sent_inward, takes_after, takes_by}
 use Rattle.vcpu_run.specs.Credited.{Ended}
-use Rattle.vcpu_run.specs.DataKept.{AreKeptAt, AreNoted, IsInwardAt, IsKeptAt, IsRangeOf, range_in}
+use Rattle.vcpu_run.specs.DataKept.{AreKeptAt, AreNoted, IsInwardAt, IsKeptAt, IsNoted, IsRangeOf, range_in}
 use Rattle.vcpu_run.specs.TagRows.{is_given, row_at}
 use Rattle.vcpu_run.specs.Takings.{AgreesTaken}
 use Rattle.vcpu_run.proofs.Driving.{some_is}
@@ -110,7 +111,7 @@ sent_under tag now (e ∷ own) has = at (sent_under tag (takes_by e.verb e.outco
     at (inl h) = first (by_record tag e.verb e.outcome now h)
     at (inr is) = inr (behind e own tag is)
 
-abbrev range_of : (at len : ℕ) → DataRange
+abbrev pub range_of : (at len : ℕ) → DataRange
 range_of at len = record { at = at; len = len }
 
 -- what a row says
@@ -194,3 +195,23 @@ range_told taken own driver tag range agrees noted kept is = by (sent_under tag 
     by : (has_tag tag no_takes.inward ≡ true) ⊎ IsSentBy own tag → IsRangeOf own driver.answers.items tag range
     by (inl h) = absurd (cc (h))
     by (inr s) = from s (range_reads s.line.verb s.reads)
+
+-- An answer of the tag was noted, which cuts to this range that of each command which was sent under the tag.
+pub record IsRangeNoted (client : ClientState) (answers : List AnswerRow) (tag : ℕ) (range : DataRange) : Type 0 where
+  pub said : DataIn
+  pub noted : IsNoted answers tag said
+  pub cut : (whole : DataRange) → IsInwardAt client.rows tag whole.at whole.len → range ≡ range_of whole.at (transferred whole.len said)
+
+pub range_noted : (client : ClientState) (answers : List AnswerRow) (tag : ℕ) (range : DataRange) → AreNoted client.rows answers → data_range client tag ≡ Some range
+    → IsRangeNoted client answers tag range
+range_noted client answers tag range noted is = record {
+  said = row.said;
+  noted = noted tag range.at row.len row.said row.row_is;
+  cut = λ whole inward.
+      let same : rows.Command dirs.In whole.at whole.len inward.0 ≡ rows.Command dirs.In range.at row.len (Some row.said) = sym inward.1 ∙ row.row_is in
+      ap (λ (n : ℕ). range_of n range.len) (sym (ap row_start same))
+      ∙ ap (λ (n : ℕ). range_of whole.at n) (row.cut ∙ ap (λ (n : ℕ). transferred n row.said) (sym (ap row_long same)));
+}
+  where
+    row : IsAnswered (row_at client.rows tag) range
+    row = row_answered (row_at client.rows tag) range (sym (range_row client tag) ∙ is)

@@ -1,5 +1,5 @@
 -- Which lines give data, and what the others say of them: nothing.
-use Rattle.std.proofs.Common.{◌≡◌, Bool, true, false, List, Option, None, Some, Result, Ok, Err, IfOk, ℕ, refl, sym, subst}
+use Rattle.std.proofs.Common.{◌≡◌, Bool, true, false, List, Option, None, Some, Result, Ok, Err, IfOk, IfSome, ℕ, refl, sym, subst}
 use Rattle.std.specs.Borrow.{GName}
 use Rattle.vio_num.specs.declared.memory.NoMemory.{NoMemory}
 use Rattle.boot_text.specs.declared.verb.Verb.{Verb}
@@ -22,6 +22,7 @@ use Rattle.vcpu_run.specs.LinesShow.{Seen, Sees, seen_by, seen_now}
 use Rattle.vcpu_run.specs.TakenScripts.{PairReads, StepKeeps}
 use Rattle.vcpu_run.proofs.DataOf.{kept_told_more}
 use Rattle.vcpu_run.proofs.LinesShown.{end_sees}
+use Rattle.vcpu_run.specs.Suited.{is_call}
 use Rattle.vcpu_run.specs.Works.{fails, sends}
 
 pub none_read : (seen : Seen) (client : ClientState) (verb : Verb) (result : Result Step NoMemory) → given_by verb ≡ None → IfOk result (StepReads seen client verb)
@@ -114,6 +115,63 @@ pub none_sends : (rs : List Row) (verb : Verb) (result : Result Step NoMemory) �
 none_sends rs verb (Ok (steps.Ends outcome)) none = subst (λ (o : Option DataRange). IsKeptAt rs o outcome) (sym none) (none_kept rs outcome)
 none_sends rs verb (Ok (steps.Waits did)) none = tt
 none_sends rs verb (Err memory) none = tt
+
+-- no more has one that fails its partition, or is a raw call
+pub fails_no_range : (verb : Verb) → fails verb ≡ true → range_in verb ≡ None
+fails_no_range verbs.Login is = refl
+fails_no_range verbs.Reset is = refl
+fails_no_range verbs.Logout is = refl
+fails_no_range verbs.Tur is = refl
+fails_no_range (verbs.Read lba blocks at pieces table) is = absurd (cc (is))
+fails_no_range (verbs.Write lba blocks at pieces table) is = refl
+fails_no_range (verbs.Command cdb) is = refl
+fails_no_range (verbs.CommandIn cdb at len pieces table) is = absurd (cc (is))
+fails_no_range (verbs.CommandOut cdb at len pieces table) is = refl
+fails_no_range (verbs.Task function of) is = refl
+fails_no_range (verbs.Take count) is = refl
+fails_no_range (verbs.Data of) is = refl
+fails_no_range verbs.Open is = refl
+fails_no_range verbs.Close is = refl
+fails_no_range (verbs.Post at len count) is = refl
+fails_no_range (verbs.Send to len seed at) is = refl
+fails_no_range (verbs.ChangeMac own) is = refl
+fails_no_range (verbs.Multicast control group) is = refl
+fails_no_range (verbs.Fill at len seed) is = refl
+fails_no_range (verbs.Poke at bytes) is = refl
+fails_no_range (verbs.Peek at len) is = refl
+fails_no_range (verbs.Tce entry page readable writable) is = refl
+fails_no_range (verbs.Hcall number arguments) is = refl
+fails_no_range verbs.Fail is = refl
+
+pub call_no_range : (verb : Verb) → is_call verb ≡ true → range_in verb ≡ None
+call_no_range verbs.Login is = refl
+call_no_range verbs.Reset is = refl
+call_no_range verbs.Logout is = refl
+call_no_range verbs.Tur is = refl
+call_no_range (verbs.Read lba blocks at pieces table) is = absurd (cc (is))
+call_no_range (verbs.Write lba blocks at pieces table) is = refl
+call_no_range (verbs.Command cdb) is = refl
+call_no_range (verbs.CommandIn cdb at len pieces table) is = absurd (cc (is))
+call_no_range (verbs.CommandOut cdb at len pieces table) is = refl
+call_no_range (verbs.Task function of) is = refl
+call_no_range (verbs.Take count) is = refl
+call_no_range (verbs.Data of) is = refl
+call_no_range verbs.Open is = refl
+call_no_range verbs.Close is = refl
+call_no_range (verbs.Post at len count) is = refl
+call_no_range (verbs.Send to len seed at) is = refl
+call_no_range (verbs.ChangeMac own) is = refl
+call_no_range (verbs.Multicast control group) is = refl
+call_no_range (verbs.Fill at len seed) is = refl
+call_no_range (verbs.Poke at bytes) is = refl
+call_no_range (verbs.Peek at len) is = refl
+call_no_range (verbs.Tce entry page readable writable) is = refl
+call_no_range (verbs.Hcall number arguments) is = refl
+call_no_range verbs.Fail is = refl
+
+pub none_keeps : (o : Option Driver) (range : Option DataRange) (outcome : Outcome) → range ≡ None → IfSome o (λ driver. IsKeptAt driver.client.rows range outcome)
+none_keeps None range outcome none = tt
+none_keeps (Some driver) range outcome none = subst (λ (r : Option DataRange). IsKeptAt driver.client.rows r outcome) (sym none) (none_kept driver.client.rows outcome)
 
 -- what a step that succeeds says of data, and keeps of its command
 pub both_keep : (seen : Seen) (old new : ClientState) (verb : Verb) (result : Result Step NoMemory) → IfOk result (StepReads seen old verb) → IfOk result (StepSends new.rows verb)

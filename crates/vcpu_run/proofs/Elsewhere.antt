@@ -1,5 +1,5 @@
 -- What the turn of one partition leaves of the clients of the others, and of the credits of all scripts.
-use Rattle.std.proofs.Common.{◌≡◌, ◌∙◌, ℕ, zero, suc, List, [], ◌∷◌, Option, Some, None, Result, Ok, Err, OnOk, IfSome, refl, sym, ap}
+use Rattle.std.proofs.Common.{◌≡◌, ◌∙◌, ℕ, zero, suc, List, [], ◌∷◌, ◌++◌, Option, Some, None, Result, Ok, Err, OnOk, IfSome, refl, sym, ap}
 use Rattle.std.specs.List.{slice_get, slice_set}
 use Rattle.boot_text.specs.declared.plan.Partition.{Partition}
 use Rattle.vcpu_run.specs.declared.pair.Pair.{Pair}
@@ -10,12 +10,14 @@ use Rattle.lan_script.specs.declared.seat.PortSeat.{PortSeat}
 use Rattle.vcpu_run.specs.Agreed.{AreAllOut, AreCredited, IsCredited, IsLoggedOut, SameBeside, SameDrivers, SameElse, driver_at, driver_in}
 use Rattle.vcpu_run.specs.ClientStrokes.{AreBare}
 use Rattle.vcpu_run.specs.Machines.{AllStay, AreScripts}
+use Rattle.vio_trace.specs.declared.window_rows.CopyRow.{CopyRow}
+use Rattle.vcpu_run.specs.DataNoted.{PairNoted}
 use Rattle.vcpu_run.specs.ScriptLogs.{LogsLines}
 use Rattle.vcpu_run.specs.ScriptTold.{SameClients}
 use Rattle.vcpu_run.specs.Making.{AreMade, IsMade}
 use Rattle.vcpu_run.proofs.Agreeing.{on_same}
 use Rattle.vcpu_run.proofs.CallRecords.{calls_else, calls_none, calls_served}
-use Rattle.vcpu_run.proofs.ClientRecords.{logs_bare, logs_else, logs_served}
+use Rattle.vcpu_run.proofs.ClientRecords.{logs_bare, logs_copied, logs_else, logs_served}
 use Rattle.vcpu_run.proofs.Crediting.{credited_by_own, credited_same}
 use Rattle.vcpu_run.proofs.Listed.{each_set, held}
 use Rattle.vcpu_run.proofs.Scripted.{seats_apart}
@@ -53,25 +55,26 @@ ok_two (Ok x) P Q p q = (p, q)
 ok_two (Err e) P Q p q = tt
 
 -- a turn of the server, and of one script
-pub credits_served : (old new : List Pair) (scripts : List Script) → AllStay old new → SameDrivers old new → SameClients old new → AreCredited old scripts → AreCredited new scripts
-credits_served old new scripts stay same clients are i script found =
+pub credits_served : (copies copies' : ℕ → List CopyRow) (old new : List Pair) (scripts : List Script) → AllStay old new → SameDrivers old new → SameClients old new
+    → ((k : ℕ) → (more : List CopyRow) × (copies' k ≡ copies k ++ more)) → AreCredited copies old scripts → AreCredited copies' new scripts
+credits_served copies copies' old new scripts stay same clients grow are i script found =
     let logs = (are i script found).1 in (
       credited_same old new script same (are i script found).0,
       record {
-        strokes = logs_served old new script clients logs.strokes;
+        strokes = logs_copied copies copies' new script grow (logs_served copies old new script stay clients logs.strokes);
         calls = calls_served old new script stay clients logs.calls;
       },
     )
 
-pub credits_turned : (old new : List Pair) (ports : List PortSeat) (scripts : List Script) (i : ℕ) (script later : Script) → slice_get scripts i ≡ Some script → AreScripts old ports scripts
-    → SameElse script.seats.items old new → AreCredited old scripts → IsCredited new later × LogsLines new later → AreCredited new (slice_set scripts i later)
-credits_turned old new ports scripts i script later found scripts_are others are here =
-    each_set (λ j other. IsCredited new other × LogsLines new other) scripts i later
+pub credits_turned : (copies : ℕ → List CopyRow) (old new : List Pair) (ports : List PortSeat) (scripts : List Script) (i : ℕ) (script later : Script) → slice_get scripts i ≡ Some script → AreScripts old ports scripts
+    → SameElse script.seats.items old new → AreCredited copies old scripts → IsCredited new later × LogsLines copies new later → AreCredited copies new (slice_set scripts i later)
+credits_turned copies old new ports scripts i script later found scripts_are others are here =
+    each_set (λ j other. IsCredited new other × LogsLines copies new other) scripts i later
     (λ j other there apart.
     let same : (u k : ℕ) → slice_get other.seats.items u ≡ Some (places.Client k) → slice_get new k ≡ slice_get old k =
     λ u k sits. others k (λ v too. apart (seats_apart old ports scripts scripts_are j i u v k other script there found sits too).0) in (
       credited_by_own old new other (λ u k sits. on_same (driver_at old k) (driver_at new k) (ap driver_in (same u k sits))) (are j other there).0,
-      record { strokes = logs_else old new other same (are j other there).1.strokes; calls = calls_else old new other same (are j other there).1.calls },
+      record { strokes = logs_else copies old new other same (are j other there).1.strokes; calls = calls_else old new other same (are j other there).1.calls },
     ))
     here
 
@@ -80,7 +83,14 @@ pub all_out : (o : Option Pair) → ((pair : Pair) → o ≡ Some pair → IsLog
 all_out None out = tt
 all_out (Some pair) out = out pair refl
 
-pub credits_made : (partitions : List Partition) (pairs : List Pair) (scripts : List Script) → AreMade partitions scripts → AreAllOut pairs → AreBare pairs → AreCredited pairs scripts
-credits_made partitions pairs scripts made out bare i script found =
+pub credits_made : (copies : ℕ → List CopyRow) (partitions : List Partition) (pairs : List Pair) (scripts : List Script) → AreMade partitions scripts → AreAllOut pairs → AreBare pairs → ((k : ℕ) (pair : Pair) → slice_get pairs k ≡ Some pair → PairNoted pair) → AreCredited copies pairs scripts
+credits_made copies partitions pairs scripts made out bare noted i script found =
     let partition = held (λ partition. IsMade partition i script) (slice_get partitions i) (made.each i script found) in
-    (partition.2.credited pairs (λ unit k sits. all_out (slice_get pairs k) (out k)), record { strokes = logs_bare pairs script partition.2.fresh bare; calls = calls_none pairs script partition.2.fresh })
+    (partition.2.credited pairs (λ unit k sits. all_out (slice_get pairs k) (out k)), record { strokes = logs_bare copies pairs script partition.2.fresh bare noted; calls = calls_none pairs script partition.2.fresh })
+
+-- the same copies, by other words
+pub credits_as : (copies copies' : ℕ → List CopyRow) (pairs : List Pair) (scripts : List Script) → ((k : ℕ) → (more : List CopyRow) × (copies' k ≡ copies k ++ more))
+    → AreCredited copies pairs scripts → AreCredited copies' pairs scripts
+credits_as copies copies' pairs scripts grow are i script found =
+    let here = are i script found in
+    (here.0, record { strokes = logs_copied copies copies' pairs script grow here.1.strokes; calls = here.1.calls })

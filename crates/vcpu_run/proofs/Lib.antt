@@ -27,6 +27,8 @@ pub mod ClientsLogged
 pub mod ClientsServed
 pub mod ClientsTold
 pub mod Copied
+pub mod CopiesCounted
+pub mod CopiesMade
 pub mod CopyCalled
 pub mod Crediting
 pub mod Credits
@@ -41,12 +43,17 @@ pub mod ShutKept
 pub mod ShutShown
 pub mod ShutTold
 pub mod DropsStay
+pub mod EndedLogins
 pub mod EndedShown
 pub mod EventsHeard
 pub mod Fetching
+pub mod FailedAtRest
+pub mod FailedShut
+pub mod FailedTold
 pub mod FewEvents
 pub mod DataEnds
 pub mod DataGiven
+pub mod DataNoted
 pub mod DataOf
 pub mod DataRanges
 pub mod DataRows

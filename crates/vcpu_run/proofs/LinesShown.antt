@@ -560,7 +560,7 @@ first_or {X} first x xs h = at h.0 h.1 h.2
     at zero within is = inl is
     at (suc k) within is = inr (k, omega (arith, within), is)
 
-all_has : {X : Type 0} (P : X → Type 0) (xs : List X) (x : X) → All P xs → Contains xs x → P x
+pub all_has : {X : Type 0} (P : X → Type 0) (xs : List X) (x : X) → All P xs → Contains xs x → P x
 all_has P xs x all has = subst P has.2 (all has.0 x has.1)
 
 behind_first : {X : Type 0} (first x : X) (xs : List X) → Contains xs x → Contains (first ∷ xs) x

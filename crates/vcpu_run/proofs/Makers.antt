@@ -48,11 +48,11 @@ abbrev pub entries_of : UnitId → (entry : ℕ) → CopyRow → List ℕ
 entries_of unit entry row = versions_shown unit entry row.from ++ versions_shown unit entry row.to
 
 -- What a copy names of a unit's window, and its row just so; nothing, where it leaves the window alone.
-record Shows (unit : UnitId) (names : CopyRecord → List ℕ) (shown : CopyRow → List ℕ) : Type 0 where
-  same : (copy : CopyRecord) → shown (copy_row copy) ≡ names copy
-  none : (copy : CopyRecord) → NamesNone unit copy → names copy ≡ []
+pub record Shows (unit : UnitId) (names : CopyRecord → List ℕ) (shown : CopyRow → List ℕ) : Type 0 where
+  pub same : (copy : CopyRecord) → shown (copy_row copy) ≡ names copy
+  pub none : (copy : CopyRecord) → NamesNone unit copy → names copy ≡ []
 
-shows_places : (unit : UnitId) (page : ℕ) → Shows unit (λ copy. places_in unit page copy.to.items) (places_of unit page)
+pub shows_places : (unit : UnitId) (page : ℕ) → Shows unit (λ copy. places_in unit page copy.to.items) (places_of unit page)
 shows_places unit page = record { same = λ copy. shown_places unit page copy.to.items; none = λ copy none. none.0 page }
 
 shows_versions : (unit : UnitId) (entry : ℕ) → Shows unit (versions_of unit entry) (entries_of unit entry)
@@ -62,7 +62,7 @@ shows_versions unit entry = record {
 }
 
 -- where only a server's copies name any, its rows name them all
-rows_name : (server : UnitId) (names : CopyRecord → List ℕ) (shown : CopyRow → List ℕ) (copies : List CopyRecord) → ((copy : CopyRecord) → shown (copy_row copy) ≡ names copy)
+pub rows_name : (server : UnitId) (names : CopyRecord → List ℕ) (shown : CopyRow → List ℕ) (copies : List CopyRecord) → ((copy : CopyRecord) → shown (copy_row copy) ≡ names copy)
     → Each (λ copy. copy.name.who ≢ server → names copy ≡ []) copies → flat_map shown (copies_by server copies) ≡ flat_map names copies
 rows_name server names shown [] same none = refl
 rows_name server names shown (copy ∷ copies) same none = at (same_unit copy.name.who server) refl (rows_name server names shown copies same none.1)

@@ -14,6 +14,7 @@ use Rattle.lan_script.specs.declared.seat.PortSeat.{PortSeat}
 use Rattle.boot_text.specs.declared.plan.Line.{Line}
 use Rattle.boot_text.specs.declared.plan.Partition.{Partition}
 use Rattle.vio_trace.specs.declared.rows.LogRow.{LogRow}
+use Rattle.vcpu_run.specs.CopiesCounted.{copies_at}
 use Rattle.vcpu_run.specs.declared.pair.Pair.{Pair}
 use Rattle.vcpu_run.specs.declared.script.Script.{Script}
 use Rattle.vcpu_run.specs.Agreed.{AreCredited}
@@ -113,7 +114,7 @@ no_rows unit [] = tt
 no_rows unit (line ∷ lines) = tt
 
 pub credits_are : (pairs : List Pair) (scripts : List Script) (lan : LanValue) (lan_rows : LanRows) (history : List Served) (grants : List Grant) (copies : List CopyRecord) (partitions : List Partition)
-    → AreScripts pairs lan.seats scripts → IsOfPlan partitions pairs scripts lan.seats → AreCredited pairs scripts
+    → AreScripts pairs lan.seats scripts → IsOfPlan partitions pairs scripts lan.seats → AreCredited (copies_at copies pairs) pairs scripts
     → CreditsAreKept partitions (trace_of pairs scripts lan lan_rows history grants copies)
 credits_are pairs scripts lan lan_rows history grants copies partitions are of_plan credited p unit =
     sole (λ (row : LogRow). row.partition == p) (λ (script : Script). script.partition == p) (λ rows. KeepsCredit None (ended_by unit (script_of partitions p) rows)) logs_of

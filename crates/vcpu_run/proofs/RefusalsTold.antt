@@ -51,7 +51,9 @@ use Rattle.block_server.specs.Ready.{HasNothing}
 use Rattle.block_server.specs.Receipts.{EndedFor}
 use Rattle.vcpu_run.specs.Received.{AreAtRest}
 use Rattle.vcpu_run.specs.ShutShown.{AreShutTold, HadEnd}
-use Rattle.vcpu_run.proofs.Settling.{emptied}
+use Rattle.vcpu_run.proofs.Settling.{client_waits, emptied}
+use Rattle.vcpu_run.proofs.FailedAtRest.{fails_at_rest}
+use Rattle.vcpu_run.proofs.GivenAnswers.{keeps_none}
 use Rattle.vcpu_run.proofs.ShutAtRest.{shut_at_rest}
 use Rattle.vcpu_run.proofs.ShutKept.{lines_shut_more}
 use Rattle.vcpu_run.specs.DropsShown.{AreDropsTold, IsFullAt, drops_to}
@@ -63,6 +65,8 @@ use Rattle.vcpu_run.specs.Sessions.{session_rows}
 use Rattle.vio_trace.specs.declared.rows.Trace.{Trace}
 use Rattle.vio_num.specs.declared.entry.Entry.{Entry}
 use Rattle.vcpu_run.specs.EventsHeard.{events_among}
+use Rattle.vcpu_run.specs.FailedShut.{AreFailedTold}
+use Rattle.vcpu_run.specs.Links.{EventWaits}
 use Rattle.vcpu_run.specs.FewEvents.{EventsAreFew, resets_told, times_failing}
 use Rattle.vcpu_run.specs.Lines.{IsOver}
 use Rattle.vcpu_run.proofs.FewEvents.{few_put}
@@ -212,6 +216,11 @@ refusals_are pairs scripts lan lan_rows history grants copies partitions home ar
     lines_shut_more (HadEnd pair.0.link) (∥ ((session : ℕ) × EndedFor server session trace.grants) ∥₁) client.unit script.lines.now script.logs.items
     (shut_at_rest rests.units copies grants history server.unit pair.0 server u.0 u.1 empty.0.registered ((home.pairs_are server.unit pair.0 pair.1).own_unit ∙ same)
     (rests.received server.unit pair.0 pair.1)) (script_is.shown client.unit server.unit pair.0 at.2 pair.1).shut in
+    let failed : AreFailedTold trace server script.lines.now script.logs.items =
+    fails_at_rest rests.units copies grants history pairs pair.0 server script client.unit at.2 pair.1 u.0 u.1 empty.0
+    (keeps_none pair.0 pipe.laws.some_slots empty.0
+    (subst (λ (o : Option Pair). IfSome o EventWaits) pair.1 (client_waits rests.units pairs scripts lan.seats partitions client server of_plan rests.idle (of_plan.sound.served client server is) is).1))
+    ((home.pairs_are server.unit pair.0 pair.1).own_unit ∙ same) (rests.received server.unit pair.0 pair.1) script_is.down in
     let given : IsClientGiven trace client server (ended_by client.unit script.lines.now script.logs.items) =
     client_takes partitions pairs scripts lan lan_rows history grants copies client server (ended_by client.unit script.lines.now script.logs.items) pair.0
     (λ driver. driver.unit ≡ unit_of script.partition client.unit) are lawful of_plan is pair.1 pair.2 (home.pairs_are server.unit pair.0 pair.1).driver (script_is.taken.kept client.unit server.unit pair.0 at.2 pair.1) sees same in
@@ -229,6 +238,8 @@ refusals_are pairs scripts lan lan_rows history grants copies partitions home ar
           (subst (λ (rows : List LogRow). AreDropsTold trace client server script.lines.now rows) (sym (own_records pairs scripts lan p script are at.1)) drops);
       shut = subst (λ (ls : List Line). AreShutTold trace client server ls (filter (λ (row : LogRow). row.partition == p) (flat_map logs_of scripts))) (sym lines)
           (subst (λ (rows : List LogRow). AreShutTold trace client server script.lines.now rows) (sym (own_records pairs scripts lan p script are at.1)) shut);
+      failed = subst (λ (ls : List Line). AreFailedTold trace server ls (filter (λ (row : LogRow). row.partition == p) (flat_map logs_of scripts))) (sym lines)
+          (subst (λ (rows : List LogRow). AreFailedTold trace server script.lines.now rows) (sym (own_records pairs scripts lan p script are at.1)) failed);
       put = subst (λ (ls : List Line). AreValuesTold trace client (ended_by client.unit ls (filter (λ (row : LogRow). row.partition == p) (flat_map logs_of scripts)))) (sym lines)
           (subst (λ (rows : List LogRow). AreValuesTold trace client (ended_by client.unit script.lines.now rows)) (sym (own_records pairs scripts lan p script are at.1)) put);
       takes = subst (λ (ls : List Line). AreAnswersTaken trace client (ended_by client.unit ls (filter (λ (row : LogRow). row.partition == p) (flat_map logs_of scripts)))) (sym lines)

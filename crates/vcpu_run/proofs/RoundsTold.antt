@@ -17,6 +17,7 @@ use Rattle.vcpu_run.specs.ScriptTold.{AreOutIf, AreOutTo, AreTold, IsResetOut, I
 use Rattle.vcpu_run.specs.TakenScripts.{AreUntaken}
 use Rattle.vcpu_run.proofs.Driving.{same_or, some_is}
 use Rattle.vcpu_run.proofs.Elsewhere.{all_out}
+use Rattle.vcpu_run.proofs.FailedTold.{down_else}
 use Rattle.vcpu_run.proofs.Listed.{each_set, held}
 use Rattle.vcpu_run.proofs.Scripted.{seats_apart}
 use Rattle.vcpu_run.proofs.ScriptsTold.{clients_told}
@@ -38,6 +39,7 @@ told_else old new script same is = record {
   };
   put = λ unit k pair at now. is.put unit k pair at (sym (same unit k at) ∙ now);
   few = λ unit k pair at now. is.few unit k pair at (sym (same unit k at) ∙ now);
+  down = down_else old new script same is.down;
 }
 
 out_else : (old new : List Pair) (script : Script) → SameSeats old new script → IsResetOut old script → IsResetOut new script

@@ -35,8 +35,10 @@ use Rattle.vcpu_run.specs.Scripts.{AreSeats}
 use Rattle.vcpu_run.specs.SentOrder.{AreSentIn, entries_put}
 use Rattle.vcpu_run.proofs.OrderSent.{one_shown, order_begun, shown_on}
 use Rattle.vcpu_run.specs.EventsMade.{AllCalm, AllShut, PairMakes, events_at}
+use Rattle.vcpu_run.specs.FailedShut.{AllStayShut, SeatsShut}
 use Rattle.vcpu_run.specs.FewEvents.{PairFew, resets_told}
 use Rattle.vcpu_run.proofs.CalmTurns.{calm_at, shut_at}
+use Rattle.vcpu_run.proofs.FailedTold.{down_clients, down_failed, down_none, down_stays, fails_aside, none_ended, script_more}
 use Rattle.vcpu_run.proofs.FewEvents.{else_ends, few_any, few_calm, few_else, few_failed, few_failing, few_now, few_over, few_shuts, few_then, makes_same, own_ends, own_waits, resets_own}
 use Rattle.vcpu_run.specs.ScriptTold.{AtSeats, IsResetOut, IsScriptTold, SameClient, SameClients, PairIsTold, PairShown, own_of, progress_at, progress_by}
 use Rattle.vcpu_run.specs.Suited.{suits}
@@ -141,6 +143,7 @@ client_waits old new script p' line seat here did found one sits there are drive
   taken = waits_taken old new script p' line seat here did found one sits there are driven step is.taken;
   put = λ unit k after at now. put unit k after at now (same_or k seat);
   few = λ unit k after at now. few unit k after at now (here_or line.unit unit);
+  down = down_none new (record script { progress = p' }) (is.down.going line found);
 }
   where
     few : (unit k : ℕ) (after : Pair) → slice_get script.seats.items unit ≡ Some (places.Client k) → slice_get new k ≡ Some after → ((line.unit == unit) ≡ true) ⊎ ((line.unit == unit) ≡ false)
@@ -218,6 +221,7 @@ client_ends old new script done line row seat p' found one sits are driven many 
   put = λ unit k after at now. put unit k after (back unit k at) now (here_or line.unit unit);
   few = λ unit k after at now. few_any unit done.lines.now (resets_told (own_of unit done)) done.progress (slice_get done.lines.now done.at) after
       (few unit k after (back unit k at) now (here_or line.unit unit));
+  down = down_none new done (script_more script done line row found one many lines logs (is.down.going line found));
 }
   where
     of : IsOf line.verb script.progress
@@ -305,6 +309,7 @@ port_waits_told pairs script p' line found one sits is = record {
   put = is.put;
   few = λ unit k pair at now. few_else unit script.lines.now (resets_told (own_of unit script)) script.progress p' (slice_get script.lines.now script.at) line pair found one
       (not_port script line unit k sits at) (is.few unit k pair at now);
+  down = down_none pairs (record script { progress = p' }) (is.down.going line found);
 }
 
 pub port_ends_told : (pairs : List Pair) (script done : Script) (line : Line) (row : LogRow) → slice_get script.lines.now script.at ≡ Some line → fails line.verb ≡ false
@@ -331,6 +336,7 @@ port_ends_told pairs script done line row found one sits many lines seats logs f
       (subst (λ (own : List Ended). events_at pair ≤ resets_told own) (sym (records unit k here))
       (else_ends unit script.lines.now (resets_told (own_of unit script)) script.progress (slice_get script.lines.now script.at) line pair found one
       (not_port script line unit k sits here) (is.few unit k pair here now)));
+  down = down_none pairs done (script_more script done line row found one many lines logs (is.down.going line found));
 }
   where
     e : Ended
@@ -396,6 +402,7 @@ new_told pairs script logs fresh out untaken = record {
   put = λ unit k pair at now. subst (λ (own : List Ended). AreValuesPut own pair) (sym (none unit)) (first_values pair (untaken k pair now).1);
   few = λ unit k pair at now. few_any unit script.lines.now (resets_told (own_of unit script)) script.progress (slice_get script.lines.now script.at) pair
       (let made : events_at pair ≡ 0 = (untaken k pair now).2 in omega (arith, made));
+  down = down_none pairs script (none_ended script.lines.now (length script.logs.items) (ap length logs));
 }
   where
     empty : (unit : ℕ) (lines : List Line) → ended_by unit lines [] ≡ []
@@ -570,33 +577,6 @@ waiting_told pairs script done line row found suited are many ends lines seats l
       port = λ at. refl;
     }) lines seats logs fresh is
 
--- a line that fails the partition asks nothing
-fails_aside : (verb : Verb) → fails verb ≡ true → (asks verb ≡ false) × (is_logout verb ≡ false) × (is_own verb ≡ false)
-fails_aside verbs.Login is = absurd (cc)
-fails_aside verbs.Reset is = absurd (cc)
-fails_aside verbs.Logout is = absurd (cc)
-fails_aside verbs.Tur is = absurd (cc)
-fails_aside (verbs.Read lba blocks at pieces table) is = absurd (cc)
-fails_aside (verbs.Write lba blocks at pieces table) is = absurd (cc)
-fails_aside (verbs.Command cdb) is = absurd (cc)
-fails_aside (verbs.CommandIn cdb at len pieces table) is = absurd (cc)
-fails_aside (verbs.CommandOut cdb at len pieces table) is = absurd (cc)
-fails_aside (verbs.Task function of) is = absurd (cc)
-fails_aside (verbs.Take count) is = absurd (cc)
-fails_aside (verbs.Data of) is = absurd (cc)
-fails_aside verbs.Open is = absurd (cc)
-fails_aside verbs.Close is = absurd (cc)
-fails_aside (verbs.Post at len count) is = absurd (cc)
-fails_aside (verbs.Send to len seed at) is = absurd (cc)
-fails_aside (verbs.ChangeMac own) is = absurd (cc)
-fails_aside (verbs.Multicast control group) is = absurd (cc)
-fails_aside (verbs.Fill at len seed) is = absurd (cc)
-fails_aside (verbs.Poke at bytes) is = absurd (cc)
-fails_aside (verbs.Peek at len) is = absurd (cc)
-fails_aside (verbs.Tce entry page readable writable) is = absurd (cc)
-fails_aside (verbs.Hcall number arguments) is = absurd (cc)
-fails_aside verbs.Fail is = (refl, refl, refl)
-
 -- a line that tells of no tag
 quiet_more : (pages : ℕ) (own : List Ended) (verb : Verb) (outcome : Outcome) → HasCausesTold pages own → asks verb ≡ false → is_logout verb ≡ false → is_own verb ≡ false → tag_of outcome ≡ []
     → HasCausesTold pages (own ++ ended verb outcome ∷ [])
@@ -633,14 +613,15 @@ fail_waits_told old new script line found failing are driven gives same shut is 
       few_failing unit script.lines.now (resets_told (own_of unit script)) script.progress (slice_get script.lines.now script.at) line after found failing
       (few_shuts unit script.lines.now (resets_told (own_of unit script)) script.progress (slice_get script.lines.now script.at) line b.pair after found failing
       (shut_at old new k b.pair after shut b.there now) (is.few unit k b.pair at b.there));
+  down = down_none new script (is.down.going line found);
 }
 
 -- it ended, and no line is left
 pub fail_ends_told : (old new : List Pair) (script done : Script) (line : Line) (row : LogRow) → slice_get script.lines.now script.at ≡ Some line → fails line.verb ≡ true
-    → AreSeats script.partition script.seats.items old → AreDriven old new → AllGive old new → AllSameValues old new → AllShut old new → length script.logs.items ≡ script.at → row.outcome ≡ outcomes.Done
+    → AreSeats script.partition script.seats.items old → AreDriven old new → AllGive old new → AllSameValues old new → AllShut old new → SeatsShut script.seats.items new → length script.logs.items ≡ script.at → row.outcome ≡ outcomes.Done
     → done.lines ≡ script.lines → done.seats ≡ script.seats → done.logs.items ≡ script.logs.items ++ row ∷ [] → done.at ≡ length done.lines.now
     → IsScriptTold old script → IsScriptTold new done
-fail_ends_told old new script done line row found failing are driven gives same shut many done_is lines seats logs over is = record {
+fail_ends_told old new script done line row found failing are driven gives same shut shut_all many done_is lines seats logs over is = record {
   law = λ unit k after at now. each unit after (law_on old new script are driven is unit k after (subst (λ ss. slice_get ss.items unit ≡ Some (places.Client k)) seats at) now) (here_or line.unit unit);
   fresh = subst (λ (o : Option Line). IfSome o (λ l. (k : ℕ) → slice_get done.seats.items l.unit ≡ Some (places.Client k) → IsOf l.verb done.progress)) (sym none) tt;
   told = λ l next ok unit k pair at now. absurd (some_none l (sym none ∙ next));
@@ -660,6 +641,7 @@ fail_ends_told old new script done line row found failing are driven gives same 
       (ap (λ ls. slice_get ls.now script.at) lines ∙ found) failing none (resets_grow unit (here_or line.unit unit))
       (few_shuts unit script.lines.now (resets_told (own_of unit script)) script.progress (slice_get script.lines.now script.at) line b.pair after found failing
       (shut_at old new k b.pair after shut b.there now) (is.few unit k b.pair here b.there));
+  down = down_failed new script done none seats shut_all;
 }
   where
     none : slice_get done.lines.now done.at ≡ None
@@ -703,8 +685,8 @@ fail_ends_told old new script done line row found failing are driven gives same 
 
 -- no line is left, and a turn was had
 pub over_told : (old new : List Pair) (script : Script) → slice_get script.lines.now script.at ≡ None
-    → AreSeats script.partition script.seats.items old → AreDriven old new → AllGive old new → AllSameValues old new → AllCalm old new → IsScriptTold old script → IsScriptTold new script
-over_told old new script none are driven gives same calm is = record {
+    → AreSeats script.partition script.seats.items old → AreDriven old new → AllGive old new → AllSameValues old new → AllCalm old new → AllStayShut old new → IsScriptTold old script → IsScriptTold new script
+over_told old new script none are driven gives same calm stay is = record {
   law = law_on old new script are driven is;
   fresh = is.fresh;
   told = λ l next ok unit k pair at now. absurd (some_none l (sym none ∙ next));
@@ -715,6 +697,7 @@ over_told old new script none are driven gives same calm is = record {
       let b = before_of script.partition unit k script.seats.items old new after are driven at now in
       few_over unit script.lines.now (resets_told (own_of unit script)) script.progress (slice_get script.lines.now script.at) b.pair after none (calm_at old new k b.pair after calm b.there now)
       (is.few unit k b.pair at b.there);
+  down = down_stays old new script stay is.down;
 }
   where
     some_none : (l : Line) → None ≡ Some l → ⊥
@@ -730,6 +713,7 @@ clients_told old new script same is = record {
   taken = clients_taken old new script same is.taken;
   put = λ unit k after at now. put unit k after at (slice_get old k) refl (same k after now);
   few = λ unit k after at now. few unit k after at (slice_get old k) refl (same k after now);
+  down = down_clients old new script same is.down;
 }
   where
     few : (unit k : ℕ) (after : Pair) → slice_get script.seats.items unit ≡ Some (places.Client k) → (o : Option Pair) → slice_get old k ≡ o

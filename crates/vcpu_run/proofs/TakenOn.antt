@@ -173,7 +173,7 @@ none_fit tag = record {
     known (suc n) = ap is_given (row_past [] (suc n) (omega arith))
 
 -- no row, and no line
-empty_row : (tag : ℕ) → row_at [] tag ≡ rows.Login
+pub empty_row : (tag : ℕ) → row_at [] tag ≡ rows.Login
 empty_row zero = refl
 empty_row (suc n) = row_past [] (suc n) (omega arith)
 

@@ -5,6 +5,7 @@ use Rattle.boot_text.specs.declared.plan.Partition.{Partition}
 use Rattle.lan_script.specs.declared.seat.PortSeat.{PortSeat}
 use Rattle.vio_trace.specs.Form.{IsInOrder}
 use Rattle.vio_trace.specs.declared.rows.Trace.{Trace}
+use Rattle.vcpu_run.specs.CopiesCounted.{copies_at}
 use Rattle.vcpu_run.specs.declared.pair.Pair.{Pair}
 use Rattle.vcpu_run.specs.declared.script.Script.{Script}
 use Rattle.rdma_copy.specs.declared.copy.CopyRecord.{CopyRecord}
@@ -43,8 +44,8 @@ KeepsOnce once law pairs scripts ports trace = (partitions : List Partition) →
 pub law_told : {E : Type 0} (r : Result Trace E) (o : Option Trace) (pairs : List Pair) (scripts : List Script) (ports : List PortSeat) (history : List Served) (copies_made : List CopyRecord) (lines : List Grant) → o ≡ result_ok r
     → IfOk r IsInOrder → IfOk r (Keeps QueuesAreLawful pairs scripts ports) → IfOk r (Keeps CopiesAreLawful pairs scripts ports)
     → IfOk r (KeepsOnce (All IsOver scripts) RecordsAreOfLines pairs scripts ports) → All IsOver scripts
-    → IfOk r (KeepsOnce (AreCredited pairs scripts) CreditsAreKept pairs scripts ports) → AreCredited pairs scripts
-    → IfOk r (KeepsOnce (All IsOver scripts) (λ partitions trace. AreCredited pairs scripts → ClientsAreLogged partitions trace) pairs scripts ports)
+    → IfOk r (KeepsOnce (AreCredited (copies_at copies_made pairs) pairs scripts) CreditsAreKept pairs scripts ports) → AreCredited (copies_at copies_made pairs) pairs scripts
+    → IfOk r (KeepsOnce (All IsOver scripts) (λ partitions trace. AreCredited (copies_at copies_made pairs) pairs scripts → ClientsAreLogged partitions trace) pairs scripts ports)
     → IfOk r (KeepsOnce (All IsOver scripts) (λ partitions trace. AreTold pairs scripts → AreAtRest copies_made lines history pairs scripts → RefusalsAreTold partitions trace) pairs scripts ports) → AreTold pairs scripts
     → IfOk r (KeepsOnce (AreAnswered history pairs) AnswersAreSent pairs scripts ports) → AreAnswered history pairs
     → IfOk r (Keeps PortsKeepLaw pairs scripts ports) → (lan : LanValue)
@@ -58,7 +59,7 @@ pub law_told : {E : Type 0} (r : Result Trace E) (o : Option Trace) (pairs : Lis
     → IfOk r (KeepsOnce (AreAtRest copies_made lines history pairs scripts) LinesAreExplained pairs scripts ports)
     → IfOk r (KeepsOnce (AreAnswered history pairs) (λ partitions trace. AreAtRest copies_made lines history pairs scripts → LoginsAreSent partitions trace) pairs scripts ports)
     → IfOk r (KeepsOnce (AreAnswered history pairs) (λ partitions trace. AreAtRest copies_made lines history pairs scripts → LoginsAreAnswered partitions trace) pairs scripts ports)
-    → IfOk r (KeepsOnce (PortsEnd lan scripts) (λ partitions trace. AreCredited pairs scripts → CallsAreSaid partitions trace) pairs scripts ports)
+    → IfOk r (KeepsOnce (PortsEnd lan scripts) (λ partitions trace. AreCredited (copies_at copies_made pairs) pairs scripts → CallsAreSaid partitions trace) pairs scripts ports)
     → AreAtRest copies_made lines history pairs scripts
     → IfSome o (Keeps KeepsLawOf pairs scripts ports)
 law_told (Ok trace) o pairs scripts ports history copies_made lines e order queues copies records over credits are logged refusals said answers answered keeps lan words tells settled handed intake requests given copied explained logins dealt called rests =

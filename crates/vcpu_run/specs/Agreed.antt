@@ -13,6 +13,7 @@ use Rattle.vcpu_run.specs.declared.unit_seat.Seat.{Seat}
 use Rattle.vcpu_run.specs.declared.unit_seat.Seat.TheVariants as sits
 use Rattle.vcpu_run.specs.Credited.{Agrees, IsFresh, KeepsCredit, StepsAgreed, StepsPort, credit_after, ended_by, taken_in}
 use Rattle.vcpu_run.specs.Freeing.{NoneSits}
+use Rattle.vio_trace.specs.declared.window_rows.CopyRow.{CopyRow}
 use Rattle.vcpu_run.specs.ScriptLogs.{LogsLines}
 use Rattle.vcpu_run.specs.Sendings.{SameCredits}
 
@@ -94,5 +95,5 @@ SameElse seats old new = (k : ℕ) → NoneSits seats k → slice_get new k ≡ 
 
 -- the records of each script keep the credits of its units, and its clients agree with them; each stroke that one laid in its own region
 -- bears the number of one of its lines; and the records say of raw calls what they may
-abbrev pub AreCredited : List Pair → List Script → Type 0
-AreCredited pairs scripts = (i : ℕ) (script : Script) → slice_get scripts i ≡ Some script → IsCredited pairs script × LogsLines pairs script
+abbrev pub AreCredited : (copies : ℕ → List CopyRow) → List Pair → List Script → Type 0
+AreCredited copies pairs scripts = (i : ℕ) (script : Script) → slice_get scripts i ≡ Some script → IsCredited pairs script × LogsLines copies pairs script

@@ -19,6 +19,7 @@ fronts_of strokes page front = IsFront front (strokes page)
 pub record IsResponseRead (front_at : (page : ℕ) → Option (List StrokeValue) → Type 0) (row : AnswerRow) : Type 0 where
   pub response : Response
   pub canonical : Canon row.answer (units.Rsp response)
+  pub tag_is : response.tag ≡ row.tag
   pub slot : ℕ
   pub within : slot < SLOTS
   pub bytes : List ℕ

@@ -14,9 +14,11 @@ pub mod ClientMoments
 pub mod ClientSlots
 pub mod ClientStrokes
 pub mod Commands
+pub mod CopiesCounted
 pub mod CopyRows
 pub mod Credited
 pub mod DataKept
+pub mod DataNoted
 pub mod DataRead
 pub mod DataTold
 pub mod DropsShown
@@ -24,6 +26,7 @@ pub mod DropsStay
 pub mod EventsHeard
 pub mod EventsMade
 pub mod EventsPut
+pub mod FailedShut
 pub mod FewEvents
 pub mod Freed
 pub mod Freeing
@@ -43,6 +46,7 @@ pub mod Making
 pub mod Moments
 pub mod Named
 pub mod News
+pub mod NotedOn
 pub mod Numbered
 pub mod OnDisk
 pub mod Pairs

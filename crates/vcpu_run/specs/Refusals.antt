@@ -21,6 +21,7 @@ use Rattle.vcpu_run.specs.DataTold.{AreDataTold}
 use Rattle.vcpu_run.specs.DropsShown.{AreDropsTold}
 use Rattle.vcpu_run.specs.Credited.{Ended, ended_by}
 use Rattle.vcpu_run.specs.AnswersSeen.{AreResponsesRead, IsFront}
+use Rattle.vcpu_run.specs.FailedShut.{AreFailedTold}
 use Rattle.vcpu_run.specs.FewEvents.{EventsAreFew}
 use Rattle.vcpu_run.specs.LinesShow.{LinesShow, Seen}
 use Rattle.vcpu_run.specs.PortWords.{HasNoCall}
@@ -133,13 +134,15 @@ seen_in trace client server = record {
 }
 
 -- So is it of each client of a partition that makes no raw call; what its lines say that they sent or wrote is there, and what they say of
--- the answers that it took, and of the data of their commands, is so; and each answer was read in its region.
+-- the answers that it took, and of the data of their commands, is so; each answer was read in its region; and where one failed the partition
+-- each login of its server unit is ended.
 pub record IsClientTold (partitions : List Partition) (trace : Trace) (client server : UnitId) : Type 0 where
   pub causes : HasCausesTold (pages_at partitions client) (ended_by client.unit (script_of partitions client.partition) (records_of trace client.partition))
   pub shown : LinesShow (seen_in trace client server) client client.unit (script_of partitions client.partition) (records_of trace client.partition)
   pub order : AreSentIn (seen_in trace client server) client client.unit (script_of partitions client.partition) (records_of trace client.partition) (sent_to trace server)
   pub drops : AreDropsTold trace client server (script_of partitions client.partition) (records_of trace client.partition)
   pub shut : AreShutTold trace client server (script_of partitions client.partition) (records_of trace client.partition)
+  pub failed : AreFailedTold trace server (script_of partitions client.partition) (records_of trace client.partition)
   pub put : AreValuesTold trace client (ended_by client.unit (script_of partitions client.partition) (records_of trace client.partition))
   pub few : EventsAreFew trace server (script_of partitions client.partition) (ended_by client.unit (script_of partitions client.partition) (records_of trace client.partition))
   pub takes : AreAnswersTaken trace client (ended_by client.unit (script_of partitions client.partition) (records_of trace client.partition))

@@ -5,6 +5,7 @@ use Rattle.vcpu_run.specs.declared.pair.Pair.{Pair}
 use Rattle.vcpu_run.specs.declared.script.Script.{Script}
 use Rattle.vcpu_run.specs.declared.unit_seat.Seat.TheVariants as sits
 use Rattle.vcpu_run.specs.CallsSaid.{CallsSaid, seen_then}
+use Rattle.vio_trace.specs.declared.window_rows.CopyRow.{CopyRow}
 use Rattle.vcpu_run.specs.ClientStrokes.{LogsStrokes}
 use Rattle.vcpu_run.specs.Ports.{unit_of}
 
@@ -19,6 +20,6 @@ LogsCalls pairs script = AreOfClients pairs script
     → CallsSaid (λ number. seen_then number script.partition script.seats.items pairs) script.lines.now script.logs.items
 
 -- What the records of a script say of its clients' regions and of its raw calls is so.
-pub record LogsLines (pairs : List Pair) (script : Script) : Type 0 where
-  pub strokes : LogsStrokes pairs script
+pub record LogsLines (copies : ℕ → List CopyRow) (pairs : List Pair) (script : Script) : Type 0 where
+  pub strokes : LogsStrokes copies pairs script
   pub calls : LogsCalls pairs script

@@ -18,6 +18,7 @@ use Rattle.vcpu_run.specs.Credited.{Ended, ended_by, taken_in}
 use Rattle.vcpu_run.specs.LinesShow.{LinesShow, Sees, seen_at}
 use Rattle.vcpu_run.specs.DropsShown.{IsFullAt, KeepsFull, LinesFull}
 use Rattle.vcpu_run.specs.EventsMade.{PairCalm}
+use Rattle.vcpu_run.specs.FailedShut.{IsDown}
 use Rattle.vcpu_run.specs.FewEvents.{PairFew}
 use Rattle.vcpu_run.specs.PortWords.{HasNoCall}
 use Rattle.vcpu_run.specs.Refusals.{HasCausesTold}
@@ -70,7 +71,8 @@ pub record IsScriptTaken (pairs : List Pair) (script : Script) : Type 0 where
   pub agrees : (line : Line) → slice_get script.lines.now script.at ≡ Some line → fails line.verb ≡ false
       → AtSeats script.seats.items pairs (λ unit pair. PairAgrees (own_of unit script) (progress_by unit script) pair)
 
--- The refusals of each client have their causes, what its lines did is there, they put what they say into its window's entries, and made no more events than resets; before a line that fails no partition each client agrees with its records.
+-- The refusals of each client have their causes, what its lines did is there, they put what they say into its window's entries, and made no more events than resets;
+-- before a line that fails no partition each client agrees with its records, and behind one that does no client's queue is registered.
 pub record IsScriptTold (pairs : List Pair) (script : Script) : Type 0 where
   pub law : AtSeats script.seats.items pairs (λ unit pair. HasCausesTold (length pair.window.pages) (own_of unit script))
   pub fresh : IfSome (slice_get script.lines.now script.at)
@@ -81,6 +83,7 @@ pub record IsScriptTold (pairs : List Pair) (script : Script) : Type 0 where
   pub taken : IsScriptTaken pairs script
   pub put : AtSeats script.seats.items pairs (λ unit pair. AreValuesPut (own_of unit script) pair)
   pub few : AtSeats script.seats.items pairs (PairFew script)
+  pub down : IsDown pairs script
 
 -- a reset that is the current line left its client without a login
 abbrev pub IsResetOut : List Pair → Script → Type 0

@@ -7,6 +7,7 @@ use Rattle.boot_text.specs.Sound.{unit_at}
 use Rattle.boot_text.specs.declared.plan.Partition.{Partition}
 use Rattle.boot_text.specs.declared.plan.UnitPlan.TheVariants as units
 use Rattle.vio_trace.specs.declared.rows.Trace.{Trace}
+use Rattle.vio_trace.specs.declared.window_rows.CopyRow.{CopyRow}
 use Rattle.vio_trace.specs.declared.window_rows.PieceRow.{PieceRow}
 use Rattle.vio_trace.specs.declared.window_rows.StrokeRow.{StrokeRow}
 use Rattle.block_server.specs.Makers.{Rises}
@@ -23,8 +24,11 @@ places_shown unit page (piece ∷ pieces) =
     if is_row_on unit page piece then piece.at ∷ places_shown unit page pieces else places_shown unit page pieces
 
 -- the places of the strokes that the copies of a trace wrote there, in the order of its rows
+abbrev pub named_rows : UnitId → (page : ℕ) → List CopyRow → List ℕ
+named_rows unit page rows = flat_map (λ row. places_shown unit page row.to) rows
+
 abbrev pub named_in : Trace → UnitId → (page : ℕ) → List ℕ
-named_in trace unit page = flat_map (λ row. places_shown unit page row.to) trace.copies
+named_in trace unit page = named_rows unit page trace.copies
 
 -- whether a piece is of this unit's window and of this entry
 abbrev pub is_row_of : UnitId → (entry : ℕ) → PieceRow → Bool

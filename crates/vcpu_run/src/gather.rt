@@ -6,6 +6,7 @@ ghost use Rattle.vcpu_run.specs.Gathered.{logs_of, sessions_at, answer_by, answe
 ghost use Rattle.boot_text.specs.declared.plan.Partition.{Partition};
 ghost use Rattle.vio_trace.specs.Form.{IsInOrder};
 ghost use Rattle.vcpu_run.specs.Agreed.{AreCredited};
+ghost use Rattle.vcpu_run.specs.CopiesCounted.{copies_at};
 ghost use Rattle.vcpu_run.specs.ClientStrokes.{ClientsAreLogged};
 ghost use Rattle.vcpu_run.specs.Caused.{IsShownAll};
 ghost use Rattle.vcpu_run.specs.Answered.{AreAnswered};
@@ -71,14 +72,17 @@ pub(crate) fn gather(
         All IsOver scripts.entry.items → RecordsAreOfLines partitions trace) }
     ensures called { IfOk result (λ trace. (partitions : List Partition) →
         IsOfPlan partitions pairs.items scripts.entry.items lan.seats →
-        PortsEnd lan scripts.entry.items → AreCredited pairs.items scripts.entry.items →
+        PortsEnd lan scripts.entry.items →
+        AreCredited (copies_at copies.items pairs.items) pairs.items scripts.entry.items →
         CallsAreSaid partitions trace) }
     ensures credits { IfOk result (λ trace. (partitions : List Partition) →
         IsOfPlan partitions pairs.items scripts.entry.items lan.seats →
-        AreCredited pairs.items scripts.entry.items → CreditsAreKept partitions trace) }
+        AreCredited (copies_at copies.items pairs.items) pairs.items scripts.entry.items →
+        CreditsAreKept partitions trace) }
     ensures logged { IfOk result (λ trace. (partitions : List Partition) →
         IsOfPlan partitions pairs.items scripts.entry.items lan.seats →
-        All IsOver scripts.entry.items → AreCredited pairs.items scripts.entry.items →
+        All IsOver scripts.entry.items →
+        AreCredited (copies_at copies.items pairs.items) pairs.items scripts.entry.items →
         ClientsAreLogged partitions trace) }
     ensures refusals { IfOk result (λ trace. (partitions : List Partition) →
         IsOfPlan partitions pairs.items scripts.entry.items lan.seats →

@@ -5,6 +5,7 @@ ghost use Rattle.boot_text.specs.declared.plan.Partition.{Partition};
 ghost use Rattle.block_server.specs.Units.{GrantEach};
 ghost use Rattle.block_server.specs.DiskLaw.{KeepsDisk};
 ghost use Rattle.vcpu_run.specs.Agreed.{AreCredited};
+ghost use Rattle.vcpu_run.specs.CopiesCounted.{copies_at};
 ghost use Rattle.vcpu_run.specs.Caused.{IsShownAll, KeepsCaused, LeadsCaused};
 ghost use Rattle.vcpu_run.specs.Answered.{AreAnswered};
 ghost use Rattle.vcpu_run.specs.Grants.{TellsGrants};
@@ -71,7 +72,8 @@ impl<'p, Di: Blocks> Machine<'p, Di> {
         ensures of_plan { IfOk result (λ machine. IsOfPlan plan.now.partitions
             machine.pairs.items machine.scripts.items machine.lan.seats) }
         ensures credited { IfOk result (λ machine.
-            AreCredited machine.pairs.items machine.scripts.items) }
+            AreCredited (copies_at machine.server.copies.items machine.pairs.items)
+            machine.pairs.items machine.scripts.items) }
         ensures said { IfOk result (λ machine. AreTold machine.pairs.items machine.scripts.items) }
         ensures told { IfOk result (λ machine. PortsTell machine.lan machine.scripts.items) }
         ensures answered { IfOk result (λ machine. AreAnswered [] machine.pairs.items) }
@@ -123,7 +125,8 @@ impl<'p, Di: Blocks> Machine<'p, Di> {
     pub fn settle(self) -> Settled<Di>
         requires machine { IsMachine self.server.partition (vec_len self.server.units)
             self.server.copies.items self.pairs.items self.scripts.items self.lan.seats }
-        requires credited { AreCredited self.pairs.items self.scripts.items }
+        requires credited { AreCredited (copies_at self.server.copies.items self.pairs.items)
+            self.pairs.items self.scripts.items }
         requires said { AreTold self.pairs.items self.scripts.items }
         requires told { PortsTell self.lan self.scripts.items }
         requires answered { AreAnswered self.server.records.history.items self.pairs.items }
@@ -211,7 +214,8 @@ fn trace_of(
 ) -> Option<Trace>
     requires pairs { AreOfOneHome copies.items pairs.items }
     requires scripts { AreScripts pairs.items lan.seats scripts.items }
-    requires credited { OnOk run (AreCredited pairs.items scripts.items) }
+    requires credited { OnOk run (AreCredited (copies_at copies.items pairs.items)
+        pairs.items scripts.items) }
     requires said { OnOk run (AreTold pairs.items scripts.items) }
     requires told { OnOk run (PortsEnd lan scripts.items) }
     requires over { OnOk run (All IsOver scripts.items) }

@@ -10,6 +10,9 @@ ghost use Rattle.lan_script.specs.Units.{LanValue};
 ghost use Rattle.lan_script.specs.declared.seat.PortSeat.{PortSeat};
 ghost use Rattle.vcpu_run.specs.declared.pair.Pair.{Pair};
 ghost use Rattle.vio_num.specs.declared.history.Served.{Served};
+ghost use Rattle.vio_trace.specs.declared.window_rows.CopyRow.{CopyRow};
+ghost use Rattle.vcpu_run.specs.CopiesCounted.{AllMadeBy, copies_at};
+ghost use Rattle.vio_num.specs.Words.{Begins};
 ghost use Rattle.vcpu_run.specs.Agreed.{AreCredited, SameDrivers};
 ghost use Rattle.vcpu_run.specs.Answered.{AreAnswered};
 ghost use Rattle.vcpu_run.specs.Caused.{LastsBy};
@@ -57,8 +60,9 @@ pub(crate) fn run<Di: Blocks>(
         server.new.copies.items pairs.new scripts.new lan.new.seats }
     ensures stay { AllStay pairs.old pairs.new }
     ensures run { AllRun scripts.old scripts.new }
-    ensures credited { OnOk result (AreCredited pairs.old scripts.old →
-        AreCredited pairs.new scripts.new) }
+    ensures credited { OnOk result (AreCredited (copies_at server.old.copies.items pairs.old)
+        pairs.old scripts.old → AreCredited (copies_at server.new.copies.items pairs.new)
+        pairs.new scripts.new) }
     ensures said { OnOk result (AreTold pairs.old scripts.old →
         AreTold pairs.new scripts.new) }
     ensures told { OnOk result (PortsTell lan.old scripts.old →
@@ -128,8 +132,9 @@ fn step<Di: Blocks>(
         server.new.copies.items pairs.new scripts.new lan.new.seats }
     ensures stay { AllStay pairs.old pairs.new }
     ensures run { AllRun scripts.old scripts.new }
-    ensures credited { OnOk result (AreCredited pairs.old scripts.old →
-        AreCredited pairs.new scripts.new) }
+    ensures credited { OnOk result (AreCredited (copies_at server.old.copies.items pairs.old)
+        pairs.old scripts.old → AreCredited (copies_at server.new.copies.items pairs.new)
+        pairs.new scripts.new) }
     ensures said { OnOk result (AreTold pairs.old scripts.old →
         AreTold pairs.new scripts.new) }
     ensures told { OnOk result (PortsTell lan.old scripts.old →
@@ -183,8 +188,9 @@ fn round<Di: Blocks>(
         server.new.copies.items pairs.new scripts.new lan.new.seats }
     ensures stay { AllStay pairs.old pairs.new }
     ensures run { AllRun scripts.old scripts.new }
-    ensures credited { OnOk result (AreCredited pairs.old scripts.old →
-        AreCredited pairs.new scripts.new) }
+    ensures credited { OnOk result (AreCredited (copies_at server.old.copies.items pairs.old)
+        pairs.old scripts.old → AreCredited (copies_at server.new.copies.items pairs.new)
+        pairs.new scripts.new) }
     ensures said { OnOk result (AreTold pairs.old scripts.old →
         AreTold pairs.new scripts.new) }
     ensures told { OnOk result (PortsTell lan.old scripts.old →
@@ -247,8 +253,9 @@ fn turn_at<Di: Blocks>(
         server.new.copies.items pairs.new scripts.new lan.new.seats }
     ensures stay { AllStay pairs.old pairs.new }
     ensures run { AllRun scripts.old scripts.new }
-    ensures credited { OnOk result (AreCredited pairs.old scripts.old →
-        AreCredited pairs.new scripts.new) }
+    ensures credited { OnOk result (AreCredited (copies_at server.old.copies.items pairs.old)
+        pairs.old scripts.old → AreCredited (copies_at server.new.copies.items pairs.new)
+        pairs.new scripts.new) }
     ensures said { OnOk result (AreTold pairs.old scripts.old →
         AreTold pairs.new scripts.new) }
     ensures told { OnOk result (PortsTell lan.old scripts.old →
@@ -304,6 +311,7 @@ fn serve<Di: Blocks>(server: &mut Server<Di>, pairs: &mut [Pair]) -> Result<Move
         server.old.units.items server.old.records server.old.copies.items pairs.old }
     ensures serving { IsServing server.new.partition (vec_len server.new.units)
         server.new.copies.items pairs.new }
+    ensures copies { Begins server.old.copies.items server.new.copies.items }
     ensures stay { AllStay pairs.old pairs.new }
     ensures drivers { SameDrivers pairs.old pairs.new }
     ensures clients { SameClients pairs.old pairs.new }
@@ -350,6 +358,7 @@ fn serve_at<Di: Blocks>(
         server.old.units.items server.old.records server.old.copies.items pairs.old }
     ensures serving { IsServing server.new.partition (vec_len server.new.units)
         server.new.copies.items pairs.new }
+    ensures copies { Begins server.old.copies.items server.new.copies.items }
     ensures stay { AllStay pairs.old pairs.new }
     ensures drivers { SameDrivers pairs.old pairs.new }
     ensures clients { SameClients pairs.old pairs.new }
@@ -395,8 +404,9 @@ fn run_script(
     ensures scripts { AreScripts pairs.new lan.new.seats scripts.new }
     ensures stay { AllStay pairs.old pairs.new }
     ensures run { AllRun scripts.old scripts.new }
-    ensures credited { OnOk result (AreCredited pairs.old scripts.old →
-        AreCredited pairs.new scripts.new) }
+    ensures credited { OnOk result ((copies : ℕ → List CopyRow) → AllMadeBy copies pairs.new →
+        AreCredited copies pairs.old scripts.old →
+        AreCredited copies pairs.new scripts.new) }
     ensures said { OnOk result (AreTold pairs.old scripts.old →
         AreTold pairs.new scripts.new) }
     ensures told { OnOk result (PortsTell lan.old scripts.old →
@@ -439,8 +449,8 @@ fn end_lines(scripts: &mut [Script<'_>]) -> Result<Moved, NoMemory>
         AreScripts pairs ports scripts.old → AreScripts pairs ports scripts.new }
     ensures run { AllRun scripts.old scripts.new }
     ensures credited { OnOk result ((pairs : List Pair) (ports : List PortSeat) →
-        AreScripts pairs ports scripts.old → AreCredited pairs scripts.old →
-        AreCredited pairs scripts.new) }
+        AreScripts pairs ports scripts.old → (copies : ℕ → List CopyRow) → AllMadeBy copies pairs →
+        AreCredited copies pairs scripts.old → AreCredited copies pairs scripts.new) }
     ensures said { OnOk result ((pairs : List Pair) (ports : List PortSeat) →
         AreScripts pairs ports scripts.old → AreOutTo (length scripts.old) pairs scripts.old →
         AreTold pairs scripts.old → AreTold pairs scripts.new) }
@@ -467,8 +477,8 @@ fn end_line_at(scripts: &mut [Script<'_>], number: usize) -> Result<Moved, NoMem
         AreScripts pairs ports scripts.old → AreScripts pairs ports scripts.new }
     ensures run { AllRun scripts.old scripts.new }
     ensures credited { OnOk result ((pairs : List Pair) (ports : List PortSeat) →
-        AreScripts pairs ports scripts.old → AreCredited pairs scripts.old →
-        AreCredited pairs scripts.new) }
+        AreScripts pairs ports scripts.old → (copies : ℕ → List CopyRow) → AllMadeBy copies pairs →
+        AreCredited copies pairs scripts.old → AreCredited copies pairs scripts.new) }
     ensures said { OnOk result ((pairs : List Pair) (ports : List PortSeat) →
         AreScripts pairs ports scripts.old → AreOutIf (λ i. i ≡ number) pairs scripts.old →
         AreTold pairs scripts.old → AreTold pairs scripts.new) }

@@ -3,6 +3,8 @@ ghost use Rattle.std.specs.Prelude.{[], ◌≡◌, ◌<◌, ℕ, All, IfOk, IfSo
 ghost use Rattle.std.specs.List.{AllPairs};
 ghost use Rattle.vcpu_run.specs.declared.pair.Pair.{Pair as PairValue};
 ghost use Rattle.vcpu_run.specs.Agreed.{AreLoggedOut, IsCredited, IsEnded, SameElse};
+ghost use Rattle.vio_trace.specs.declared.window_rows.CopyRow.{CopyRow};
+ghost use Rattle.vcpu_run.specs.CopiesCounted.{AllMadeBy};
 ghost use Rattle.vcpu_run.specs.ScriptLogs.{LogsLines};
 ghost use Rattle.vcpu_run.specs.Credited.{taken_in};
 ghost use Rattle.vcpu_run.specs.Lines.{IsOver, is_over, place_behind};
@@ -131,8 +133,8 @@ impl<'p> Script<'p> {
         ensures apart { OnOk result (IsApart self.old.partition lan.old lan.new) }
         ensures credited { OnOk result (IsCredited pairs.old self.old →
             IsCredited pairs.new self.new) }
-        ensures logged { OnOk result (LogsLines pairs.old self.old →
-            LogsLines pairs.new self.new) }
+        ensures logged { OnOk result ((copies : ℕ → List CopyRow) → AllMadeBy copies pairs.new →
+            LogsLines copies pairs.old self.old → LogsLines copies pairs.new self.new) }
         ensures said { OnOk result (HasNoCall self.old.lines.now →
             IsScriptTold pairs.old self.old → IsScriptTold pairs.new self.new) }
         ensures out { IfOk result (λ moved. moved ≡ Moved.Quiet → HasNoCall self.old.lines.now →
@@ -166,8 +168,8 @@ impl<'p> Script<'p> {
         ensures apart { OnOk result (IsApart self.old.partition lan.old lan.new) }
         ensures credited { OnOk result (IsCredited pairs.old self.old →
             IsCredited pairs.new self.new) }
-        ensures logged { OnOk result (LogsLines pairs.old self.old →
-            LogsLines pairs.new self.new) }
+        ensures logged { OnOk result ((copies : ℕ → List CopyRow) → AllMadeBy copies pairs.new →
+            LogsLines copies pairs.old self.old → LogsLines copies pairs.new self.new) }
         ensures said { OnOk result (HasNoCall self.old.lines.now →
             IsScriptTold pairs.old self.old → IsScriptTold pairs.new self.new) }
         ensures out { IfOk result (λ moved. moved ≡ Moved.Quiet → HasNoCall self.old.lines.now →
@@ -204,8 +206,8 @@ impl<'p> Script<'p> {
         ensures apart { OnOk result (IsApart self.old.partition lan.old lan.new) }
         ensures credited { OnOk result (IsCredited pairs.old self.old →
             IsCredited pairs.new self.new) }
-        ensures logged { OnOk result (LogsLines pairs.old self.old →
-            LogsLines pairs.new self.new) }
+        ensures logged { OnOk result ((copies : ℕ → List CopyRow) → AllMadeBy copies pairs.new →
+            LogsLines copies pairs.old self.old → LogsLines copies pairs.new self.new) }
         ensures said { OnOk result (HasNoCall self.old.lines.now →
             IsScriptTold pairs.old self.old → IsScriptTold pairs.new self.new) }
         ensures out { IfOk result (λ moved. moved ≡ Moved.Quiet → HasNoCall self.old.lines.now →
@@ -259,8 +261,8 @@ impl<'p> Script<'p> {
         ensures apart { OnOk result (IsApart self.old.partition lan.old lan.new) }
         ensures credited { OnOk result (IsCredited pairs.old self.old →
             IsCredited pairs.new self.new) }
-        ensures logged { OnOk result (LogsLines pairs.old self.old →
-            LogsLines pairs.new self.new) }
+        ensures logged { OnOk result ((copies : ℕ → List CopyRow) → AllMadeBy copies pairs.new →
+            LogsLines copies pairs.old self.old → LogsLines copies pairs.new self.new) }
         ensures said { OnOk result (IsScriptTold pairs.old self.old →
             IsScriptTold pairs.new self.new) }
         ensures out { IfOk result (λ moved. moved ≡ Moved.Quiet →
@@ -319,7 +321,8 @@ impl<'p> Script<'p> {
         ensures credited { OnOk result ((pairs : List PairValue) → IsScript pairs self.old →
             IsCredited pairs self.old → IsCredited pairs self.new) }
         ensures logged { OnOk result ((pairs : List PairValue) → IsScript pairs self.old →
-            LogsLines pairs self.old → LogsLines pairs self.new) }
+            (copies : ℕ → List CopyRow) → AllMadeBy copies pairs →
+            LogsLines copies pairs self.old → LogsLines copies pairs self.new) }
         ensures told { OnOk result ((pairs : List PairValue) (lan : LanValue) →
             IsScript pairs self.old → TellsPorts lan self.old → TellsPorts lan self.new) }
         ensures said { OnOk result ((pairs : List PairValue) → IsScript pairs self.old →

@@ -99,6 +99,8 @@ pub(crate) fn take_rest(pair: &mut Pair) -> Result<Moved, NoMemory>
     ensures calm { PairCalm pair.old pair.new }
     ensures gives { OnOk result (PairGives pair.old pair.new) }
     ensures stays { FreesNoneAt pair.old pair.new }
+    ensures queue { (side_of pair.new.link false).registered
+        ≡ (side_of pair.old.link false).registered }
     ensures quiet { IfOk result (λ moved. moved ≡ Moved.Quiet → PairRests pair.old pair.new) }
     ensures waits { IfOk result (λ moved. moved ≡ Moved.Quiet →
         ClientWaits (link_state pair.new.link)) }
@@ -120,6 +122,8 @@ pub(crate) fn fail(pair: &mut Pair) -> Result<bool, NoMemory>
     ensures values { SameValues pair.old pair.new }
     ensures window { pair.new.window ≡ pair.old.window }
     ensures shuts { PairShuts pair.old pair.new }
+    ensures down { IfOk result (λ done. done ≡ true →
+        (side_of pair.new.link false).registered ≡ false) }
     ensures gives { OnOk result (PairGives pair.old pair.new) }
     ensures credit { OnDrivers pair.old.driver pair.new.driver (λ a b.
         SameCredits a.client b.client) }

@@ -6,6 +6,7 @@ ghost use Rattle.vcpu_run.specs.ClientMoments.{LineStepped, SeatStepped};
 ghost use Rattle.vcpu_run.specs.ClientStrokes.{AllLay, LineLays, NoneLay};
 ghost use Rattle.vcpu_run.specs.Credited.{taken_in};
 ghost use Rattle.vcpu_run.specs.EventsMade.{AllCalm, AllShut};
+ghost use Rattle.vcpu_run.specs.FailedShut.{AllStayShut, IsShutAt, SeatsShut, opens_if};
 ghost use Rattle.vcpu_run.specs.Freed.{FreesNoneIf};
 ghost use Rattle.vcpu_run.specs.Freeing.{IsSpared, is_reset};
 ghost use Rattle.vcpu_run.specs.Holding.{LineOpen, SeatOpen};
@@ -199,6 +200,7 @@ pub(crate) fn step_unit(
         LineOut seats.now line.now progress.old progress.new pairs.old pairs.new result }
     ensures registered { is_call line.now.verb ≡ false →
         LineOpen seats.now line.now progress.new pairs.old pairs.new result }
+    ensures drivers { is_call line.now.verb ≡ true → SameDrivers pairs.old pairs.new }
     ensures stays { FreesNoneIf (IsSpared seats.now line.now) pairs.old pairs.new }
     ensures others { SameElse seats.now pairs.old pairs.new }
     ensures lan { lan.new.seats ≡ lan.old.seats }
@@ -229,6 +231,7 @@ fn take_rest_of(pairs: &mut [Pair], pair: usize) -> Result<Moved, NoMemory>
     ensures values { AllSameValues pairs.old pairs.new }
     ensures lays { NoneLay pairs.old pairs.new }
     ensures calm { AllCalm pairs.old pairs.new }
+    ensures stays_shut { AllStayShut pairs.old pairs.new }
     ensures others { SameBeside pair pairs.old pairs.new }
     ensures stays { FreesNoneIf (λ _. ⊤) pairs.old pairs.new }
     ensures still { IfOk result (λ moved. moved ≡ Moved.Quiet → LinksRest pairs.old pairs.new) }
@@ -253,6 +256,7 @@ fn take_rest_at(
     ensures values { AllSameValues pairs.old pairs.new }
     ensures lays { NoneLay pairs.old pairs.new }
     ensures calm { AllCalm pairs.old pairs.new }
+    ensures stays_shut { AllStayShut pairs.old pairs.new }
     ensures others { SameElse (seat ∷ []) pairs.old pairs.new }
     ensures lan { lan.new.seats ≡ lan.old.seats }
     ensures takes { OnOk result (TakesOn lan.old lan.new unit) }
@@ -286,6 +290,7 @@ pub(crate) fn take_rest(
     ensures values { AllSameValues pairs.old pairs.new }
     ensures lays { NoneLay pairs.old pairs.new }
     ensures calm { AllCalm pairs.old pairs.new }
+    ensures stays_shut { AllStayShut pairs.old pairs.new }
     ensures others { SameElse seats.now pairs.old pairs.new }
     ensures lan { lan.new.seats ≡ lan.old.seats }
     ensures takes { OnOk result (AllTake partition lan.old lan.new) }
@@ -319,6 +324,8 @@ fn fail_of(pairs: &mut [Pair], pair: usize) -> Result<bool, NoMemory>
     ensures values { AllSameValues pairs.old pairs.new }
     ensures lays { NoneLay pairs.old pairs.new }
     ensures shut { AllShut pairs.old pairs.new }
+    ensures down { IfOk result (λ done. done ≡ true →
+        opens_if (slice_get pairs.new pair) ≡ 0) }
     ensures others { SameBeside pair pairs.old pairs.new }
 {
     seat::fail(&mut pairs[pair])
@@ -335,6 +342,7 @@ fn fail_at(unit: UnitId, seat: Seat, pairs: &mut [Pair], lan: &mut Lan) -> Resul
     ensures values { AllSameValues pairs.old pairs.new }
     ensures lays { NoneLay pairs.old pairs.new }
     ensures shut { AllShut pairs.old pairs.new }
+    ensures down { IfOk result (λ done. done ≡ true → IsShutAt seat pairs.new) }
     ensures others { SameElse (seat ∷ []) pairs.old pairs.new }
     ensures lan { lan.new.seats ≡ lan.old.seats }
     ensures idle { AllSilent lan.old lan.new }
@@ -363,6 +371,7 @@ pub(crate) fn fail(
     ensures values { AllSameValues pairs.old pairs.new }
     ensures lays { NoneLay pairs.old pairs.new }
     ensures shut { AllShut pairs.old pairs.new }
+    ensures down { IfOk result (λ done. done ≡ true → SeatsShut seats.now pairs.new) }
     ensures others { SameElse seats.now pairs.old pairs.new }
     ensures lan { lan.new.seats ≡ lan.old.seats }
     ensures idle { AllSilent lan.old lan.new }

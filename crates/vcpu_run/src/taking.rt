@@ -81,6 +81,7 @@ impl Driver {
         ensures values { (O.state own.new).values ≡ (O.state own.old).values }
         ensures gives { OnOk result (Gives self.old self.new
             (C.state crq.old.end) (C.state crq.new.end)) }
+        ensures queue { (C.state crq.new.end).registered ≡ (C.state crq.old.end).registered }
         ensures quiet { IfOk result (λ moved. C.is_shared ≡ false → moved ≡ Moved.Quiet →
             EndRests (C.state crq.old.end) (C.state crq.new.end)) }
     {

@@ -1,4 +1,5 @@
 use Rattle.std.proofs.Common.{All, OnOk, subst}
+use Rattle.vcpu_run.specs.CopiesCounted.{copies_at}
 use Rattle.vcpu_run.specs.Agreed.{AreCredited}
 use Rattle.vcpu_run.specs.Lines.{IsOver}
 use Rattle.vcpu_run.specs.PortsRest.{PortsEnd}
@@ -10,7 +11,7 @@ use Rattle.vcpu_run.proofs.machine.trace_of.Goals as goal
 pub returns-in-Ok-clause-law : goal.returns-in-Ok-clause-law
 returns-in-Ok-clause-law c =
     let told = c.gather.ensures in
-    let credited = subst (λ r. OnOk r (AreCredited c.args.pairs.items c.args.scripts.items)) c.in-Ok.is c.requires.credited in
+    let credited = subst (λ r. OnOk r (AreCredited (copies_at c.args.copies.items c.args.pairs.items) c.args.pairs.items c.args.scripts.items)) c.in-Ok.is c.requires.credited in
     let said = subst (λ r. OnOk r (AreTold c.args.pairs.items c.args.scripts.items)) c.in-Ok.is c.requires.said in
     let tells = subst (λ r. OnOk r (PortsEnd c.args.lan c.args.scripts.items)) c.in-Ok.is c.requires.told in
     let over = subst (λ r. OnOk r (All IsOver c.args.scripts.items)) c.in-Ok.is c.requires.over in

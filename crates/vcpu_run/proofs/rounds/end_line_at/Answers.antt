@@ -33,10 +33,10 @@ returns-clause-credited c =
     let old = slice_index_or scripts c.args.number d in
     let found = slice_get-get_or scripts c.args.number d c.requires in
     ok_then c.end_waiting.result _ _
-    (λ kept pairs ports scripts_are are.
-    credits_turned pairs pairs ports scripts c.args.number old c.end_waiting.new.self found scripts_are (else_none old.seats.items pairs) are (
+    (λ kept pairs ports scripts_are copies made are.
+    credits_turned copies pairs pairs ports scripts c.args.number old c.end_waiting.new.self found scripts_are (else_none old.seats.items pairs) are (
       kept.0 pairs (scripts_are c.args.number old found).script_is (are c.args.number old found).0,
-      kept.1 pairs (scripts_are c.args.number old found).script_is (are c.args.number old found).1,
+      kept.1 pairs (scripts_are c.args.number old found).script_is copies made (are c.args.number old found).1,
     ))
     (ok_two c.end_waiting.result _ _ c.end_waiting.ensures.credited c.end_waiting.ensures.logged)
 

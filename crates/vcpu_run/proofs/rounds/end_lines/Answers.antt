@@ -5,7 +5,7 @@ use Rattle.vcpu_run.proofs.Scripted.{run_same, run_then}
 use Rattle.vcpu_run.proofs.rounds.end_lines.Goals as goal
 
 pub loop-number-init : goal.loop-number-init
-loop-number-init c = record { scripts = λ pairs ports are. are; run = run_same c.args.scripts.now; credited = λ pairs ports scripts_are are. are; said = λ pairs ports scripts_are out are. are; rest = λ i more. refl; told = λ pairs ports lan scripts_are tells. tells; same = λ is. refl; unfreed = λ pairs ports scripts_are opens keep. keep }
+loop-number-init c = record { scripts = λ pairs ports are. are; run = run_same c.args.scripts.now; credited = λ pairs ports scripts_are copies made are. are; said = λ pairs ports scripts_are out are. are; rest = λ i more. refl; told = λ pairs ports lan scripts_are tells. tells; same = λ is. refl; unfreed = λ pairs ports scripts_are opens keep. keep }
 
 pub loop-number-preserved : goal.loop-number-preserved
 loop-number-preserved c =
@@ -14,7 +14,7 @@ loop-number-preserved c =
     record {
       scripts = λ pairs ports are. after.scripts pairs ports (before.scripts pairs ports are);
       run = run_then c.args.scripts.now c.loop-number.scripts c.end_line_at.new.scripts before.run after.run;
-      credited = λ pairs ports scripts_are are. c.in_ok-turned.ensures.credited pairs ports (before.scripts pairs ports scripts_are) (before.credited pairs ports scripts_are are);
+      credited = λ pairs ports scripts_are copies made are. c.in_ok-turned.ensures.credited pairs ports (before.scripts pairs ports scripts_are) copies made (before.credited pairs ports scripts_are copies made are);
       said = λ pairs ports scripts_are out are.
           c.in_ok-turned.ensures.said pairs ports (before.scripts pairs ports scripts_are)
           (out_next pairs c.args.scripts.now c.loop-number.scripts c.loop-number.number before.rest out) (before.said pairs ports scripts_are out are);

@@ -3,7 +3,9 @@ use Rattle.vio_num.specs.declared.hypervisor.Moved.TheVariants.{Quiet}
 use Rattle.lan_script.specs.Units.{LanValue}
 use Rattle.lan_script.specs.declared.seat.PortSeat.{PortSeat}
 use Rattle.vcpu_run.specs.declared.pair.Pair.{Pair}
+use Rattle.vio_trace.specs.declared.window_rows.CopyRow.{CopyRow}
 use Rattle.vcpu_run.specs.Agreed.{AreCredited}
+use Rattle.vcpu_run.specs.CopiesCounted.{AllMadeBy}
 use Rattle.vcpu_run.specs.Holding.{AreOpenTo, KeepQueues}
 use Rattle.vcpu_run.specs.Machines.{AllRun, AreScripts}
 use Rattle.vcpu_run.specs.PortWords.{PortsTell}
@@ -14,7 +16,8 @@ abbrev pub invariant-loop-number : goal.invariant-loop-number
 invariant-loop-number l = record {
   scripts : (pairs : List Pair) (ports : List PortSeat) → AreScripts pairs ports l.initial.scripts → AreScripts pairs ports l.scripts;
   run : AllRun l.initial.scripts l.scripts;
-  credited : (pairs : List Pair) (ports : List PortSeat) → AreScripts pairs ports l.initial.scripts → AreCredited pairs l.initial.scripts → AreCredited pairs l.scripts;
+  credited : (pairs : List Pair) (ports : List PortSeat) → AreScripts pairs ports l.initial.scripts → (copies : ℕ → List CopyRow) → AllMadeBy copies pairs
+      → AreCredited copies pairs l.initial.scripts → AreCredited copies pairs l.scripts;
   said : (pairs : List Pair) (ports : List PortSeat) → AreScripts pairs ports l.initial.scripts → AreOutTo (length l.initial.scripts) pairs l.initial.scripts → AreTold pairs l.initial.scripts → AreTold pairs l.scripts;
   rest : (i : ℕ) → l.number ≤ i → slice_get l.scripts i ≡ slice_get l.initial.scripts i;
   told : (pairs : List Pair) (ports : List PortSeat) (lan : LanValue) → AreScripts pairs ports l.initial.scripts → PortsTell lan l.initial.scripts → PortsTell lan l.scripts;

@@ -1,5 +1,6 @@
 use Rattle.std.proofs.Common.{◌≡◌, vec_len}
 use Rattle.vcpu_run.specs.Agreed.{AreCredited}
+use Rattle.vcpu_run.specs.CopiesCounted.{copies_at}
 use Rattle.vcpu_run.specs.Answered.{AreAnswered}
 use Rattle.vio_num.specs.declared.hypervisor.Moved.TheVariants.{Quiet}
 use Rattle.vcpu_run.specs.Holding.{IsOpenUpTo, KeepQueues}
@@ -28,7 +29,7 @@ invariant-loop-number g l = record {
       (g.Di.Blocks.state l.initial.server.disk.image).blocks (g.Di.Blocks.state l.server.disk.image).blocks;
   causes : LastsBy l.initial.server.copies.items l.server.copies.items l.initial.pairs l.pairs l.initial.server.records.history.items l.server.records.history.items
       (g.Di.Blocks.state l.initial.server.disk.image).blocks (g.Di.Blocks.state l.server.disk.image).blocks;
-  credited : AreCredited l.initial.pairs l.initial.scripts → AreCredited l.pairs l.scripts;
+  credited : AreCredited (copies_at l.initial.server.copies.items l.initial.pairs) l.initial.pairs l.initial.scripts → AreCredited (copies_at l.server.copies.items l.pairs) l.pairs l.scripts;
   said : AreTold l.initial.pairs l.initial.scripts → AreTold l.pairs l.scripts;
   out : l.moved ≡ Quiet → AreTold l.initial.pairs l.initial.scripts → AreOutTo l.number l.pairs l.scripts;
   told : PortsTell l.initial.lan l.initial.scripts → PortsTell l.lan l.scripts;

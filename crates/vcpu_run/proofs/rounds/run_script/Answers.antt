@@ -61,9 +61,9 @@ returns-clause-credited c =
     let old = slice_index_or scripts c.args.number d in
     let found = slice_get-get_or scripts c.args.number d c.requires.there in
     ok_then c.turn.result _ _
-    (λ kept are.
-    credits_turned c.args.pairs.now c.turn.new.pairs c.args.lan.now.seats scripts c.args.number old c.turn.new.self found c.requires.scripts c.turn.ensures.others are
-    (kept.0 (are c.args.number old found).0, kept.1 (are c.args.number old found).1))
+    (λ kept copies made are.
+    credits_turned copies c.args.pairs.now c.turn.new.pairs c.args.lan.now.seats scripts c.args.number old c.turn.new.self found c.requires.scripts c.turn.ensures.others are
+    (kept.0 (are c.args.number old found).0, kept.1 copies made (are c.args.number old found).1))
     (ok_two c.turn.result _ _ c.turn.ensures.credited c.turn.ensures.logged)
 
 pub returns-clause-answered : goal.returns-clause-answered

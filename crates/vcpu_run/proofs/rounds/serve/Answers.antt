@@ -1,5 +1,6 @@
 use Rattle.vcpu_run.proofs.Idling.{serves_all, serves_next}
 use Rattle.std.proofs.Common.{◌∙◌, refl, arith}
+use Rattle.vcpu_run.proofs.CopiesMade.{begins_on, begins_same}
 use Rattle.vcpu_run.proofs.Causings.{causes_same, causes_then}
 use Rattle.vcpu_run.proofs.Disks.{lasts_same, lasts_then}
 use Rattle.vcpu_run.proofs.Keeping.{all_same, all_then}
@@ -8,11 +9,12 @@ use Rattle.vcpu_run.proofs.ClientsTold.{clients_on, clients_same}
 use Rattle.vcpu_run.proofs.rounds.serve.Goals as goal
 
 pub loop-unit-init : goal.loop-unit-init
-loop-unit-init g c = record { serving = c.requires.serving; stay = all_same c.args.pairs.now; drivers = λ k. refl; clients = clients_same c.args.pairs.now; answered = c.requires.answered; received = c.requires.received; heard = c.requires.heard; grants = λ granted is. is; disk = lasts_same c.args.server.now.records.history.items (g.Di.Blocks.state c.args.server.now.disk.image).blocks; causes = causes_same c.args.server.now.copies.items c.args.pairs.now c.args.server.now.records.history.items (g.Di.Blocks.state c.args.server.now.disk.image).blocks; linked = λ are. are; stays = frees_same _ c.args.pairs.now; wait = λ is are k link less found. absurd (omega (arith, less)) }
+loop-unit-init g c = record { serving = c.requires.serving; copies = begins_same c.args.server.now.copies.items; stay = all_same c.args.pairs.now; drivers = λ k. refl; clients = clients_same c.args.pairs.now; answered = c.requires.answered; received = c.requires.received; heard = c.requires.heard; grants = λ granted is. is; disk = lasts_same c.args.server.now.records.history.items (g.Di.Blocks.state c.args.server.now.disk.image).blocks; causes = causes_same c.args.server.now.copies.items c.args.pairs.now c.args.server.now.records.history.items (g.Di.Blocks.state c.args.server.now.disk.image).blocks; linked = λ are. are; stays = frees_same _ c.args.pairs.now; wait = λ is are k link less found. absurd (omega (arith, less)) }
 
 pub loop-unit-preserved : goal.loop-unit-preserved
 loop-unit-preserved g c = record {
   serving = c.serve_at.ensures.serving;
+  copies = begins_on c.args.server.now.copies.items c.loop-unit.server.copies.items c.serve_at.new.server.copies.items c.loop-unit.invariant.copies c.serve_at.ensures.copies;
   stay = all_then c.args.pairs.now c.loop-unit.pairs c.serve_at.new.pairs c.loop-unit.invariant.stay c.serve_at.ensures.stay;
   drivers = λ k. c.serve_at.ensures.drivers k ∙ c.loop-unit.invariant.drivers k;
   clients = clients_on c.args.pairs.now c.loop-unit.pairs c.serve_at.new.pairs c.loop-unit.invariant.clients c.serve_at.ensures.clients;

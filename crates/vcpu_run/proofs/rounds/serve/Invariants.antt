@@ -1,6 +1,7 @@
 use Rattle.std.specs.Prelude.{⊤}
 use Rattle.std.proofs.Common.{◌≡◌, ◌<◌, ℕ, Some, slice_get, vec_len}
 use Rattle.vio_num.specs.declared.hypervisor.Moved.TheVariants.{Quiet}
+use Rattle.vio_num.specs.Words.{Begins}
 use Rattle.vcpu_run.specs.Freed.{FreesNoneIf}
 use Rattle.vcpu_run.specs.Caused.{LastsBy}
 use Rattle.vcpu_run.specs.Grants.{KeepsGrants}
@@ -17,6 +18,7 @@ use Rattle.vcpu_run.proofs.rounds.serve.Given as goal
 abbrev pub invariant-loop-unit : goal.invariant-loop-unit
 invariant-loop-unit g l = record {
   serving : IsServing l.server.partition (vec_len l.server.units) l.server.copies.items l.pairs;
+  copies : Begins l.initial.server.copies.items l.server.copies.items;
   stay : AllStay l.initial.pairs l.pairs;
   drivers : SameDrivers l.initial.pairs l.pairs;
   clients : SameClients l.initial.pairs l.pairs;

@@ -167,3 +167,6 @@ returns-clause-causes g c = λ told tells.
     let before = tells_before told c.args.server.now.copies.items c.serve.new.server.copies.items pairs c.args.unit (slice_index_or pairs c.args.unit c.index-pairs-unit.result) c.serve.new.self there
     c.serve.ensures.shows c.serve.ensures.own tells in
     (before, c.serve.ensures.causes told (tells c.args.unit c.serve.new.self (get_set_same pairs c.args.unit c.serve.new.self c.requires.there)) (c.requires.heard.all told before).order)
+
+pub returns-clause-copies : goal.returns-clause-copies
+returns-clause-copies g c = c.serve.ensures.shows.made

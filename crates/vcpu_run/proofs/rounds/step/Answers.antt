@@ -1,3 +1,5 @@
+use Rattle.vcpu_run.specs.CopiesCounted.{copies_at}
+use Rattle.vcpu_run.proofs.CopiesMade.{all_made}
 use Rattle.vcpu_run.specs.Links.{AreIdleTo, AreOverTo}
 use Rattle.vcpu_run.specs.declared.script.Script.{Script}
 use Rattle.vcpu_run.proofs.Resting.{ok_more}
@@ -21,7 +23,9 @@ returns-in-Quiet-clause-run g c =
 pub returns-in-Quiet-clause-credited : goal.returns-in-Quiet-clause-credited
 returns-in-Quiet-clause-credited g c =
     ok_then c.end_lines.result _ _
-    (λ kept are. kept c.round.new.pairs c.round.new.lan.seats c.round.ensures.machine.scripts_are (c.in_ok-round.ensures.credited are))
+    (λ kept are.
+    kept c.round.new.pairs c.round.new.lan.seats c.round.ensures.machine.scripts_are (copies_at c.round.new.server.copies.items c.round.new.pairs)
+    (all_made c.round.new.server.partition c.round.new.server.copies.items c.round.new.pairs c.round.ensures.machine.serving.pairs_are) (c.in_ok-round.ensures.credited are))
     c.end_lines.ensures.credited
 
 pub returns-in-Quiet-clause-linked : goal.returns-in-Quiet-clause-linked

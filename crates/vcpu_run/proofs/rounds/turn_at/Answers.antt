@@ -1,3 +1,6 @@
+use Rattle.vcpu_run.specs.CopiesCounted.{copies_at}
+use Rattle.vcpu_run.proofs.CopiesMade.{all_made, begins_same, rows_grow}
+use Rattle.vcpu_run.proofs.Elsewhere.{credits_as, ok_then}
 use Rattle.vcpu_run.proofs.Resting.{ok_more}
 use Rattle.vcpu_run.proofs.Idling.{rests_clients, rests_servers}
 use Rattle.std.proofs.lemmas.Option.{slice_get-get_or}
@@ -28,7 +31,22 @@ returns-then-is_of_servers-clause-run g c = run_same c.args.scripts.now
 
 pub returns-then-is_of_servers-clause-credited : goal.returns-then-is_of_servers-clause-credited
 returns-then-is_of_servers-clause-credited g c =
-    on_ok c.serve.result _ (λ are. credits_served c.args.pairs.now c.serve.new.pairs c.args.scripts.now c.serve.ensures.stay c.serve.ensures.drivers c.serve.ensures.clients are)
+    on_ok c.serve.result _
+    (credits_served (copies_at c.args.server.now.copies.items c.args.pairs.now) (copies_at c.serve.new.server.copies.items c.serve.new.pairs) c.args.pairs.now c.serve.new.pairs c.args.scripts.now
+    c.serve.ensures.stay c.serve.ensures.drivers c.serve.ensures.clients
+    (rows_grow c.args.server.now.copies.items c.serve.new.server.copies.items c.args.pairs.now c.serve.new.pairs c.serve.ensures.copies c.serve.ensures.stay))
+
+pub returns-else-is_of_servers-clause-credited : goal.returns-else-is_of_servers-clause-credited
+returns-else-is_of_servers-clause-credited g c =
+    let copies = c.args.server.now.copies.items in
+    let grow = rows_grow copies copies c.args.pairs.now c.run_script.new.pairs (begins_same copies) c.run_script.ensures.stay in
+    ok_then c.run_script.result _ _
+    (λ kept are.
+    kept (copies_at copies c.run_script.new.pairs)
+    (all_made c.args.server.now.partition copies c.run_script.new.pairs
+    (serving_stays c.args.server.now.partition (vec_len c.args.server.now.units) copies c.args.pairs.now c.run_script.new.pairs c.run_script.ensures.stay c.run_script.ensures.pairs c.requires.machine.serving).pairs_are)
+    (credits_as (copies_at copies c.args.pairs.now) (copies_at copies c.run_script.new.pairs) c.args.pairs.now c.args.scripts.now grow are))
+    c.run_script.ensures.credited
 
 pub returns-else-is_of_servers-clause-machine : goal.returns-else-is_of_servers-clause-machine
 returns-else-is_of_servers-clause-machine g c =

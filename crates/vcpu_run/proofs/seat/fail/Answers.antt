@@ -1,4 +1,4 @@
-use Rattle.std.proofs.Common.{◌∙◌, ◌∷◌, [], false, refl, ap}
+use Rattle.std.proofs.Common.{◌≡◌, ◌∙◌, ◌∷◌, [], false, true, refl, ap}
 use Rattle.vio_num.specs.Entry.{partner_failed}
 use Rattle.crq_session.specs.EndState.{EndCounts}
 use Rattle.vcpu_run.specs.declared.pair.Pair.{Pair}
@@ -7,9 +7,11 @@ use Rattle.vcpu_run.proofs.Driving.{drives_link, drives_on, some_none}
 use Rattle.vcpu_run.proofs.GivesAll.{gives_kept, gives_next, link_taken}
 use Rattle.std.proofs.Common.{sym, subst}
 use Rattle.crq_session.specs.EndState.{EndPlace}
-use Rattle.crq_session.specs.PlainState.{end_of, state_of}
+use Rattle.crq_session.specs.PlainState.{end_of, side_of, state_of}
 use Rattle.crq_session.specs.declared.link.PlainLink.{PlainLink}
 use Rattle.vcpu_run.proofs.CalmTurns.{ShutsEnd, shuts_failed, shuts_link, shuts_on, shuts_ready, shuts_same}
+use Rattle.vcpu_run.proofs.FailedShut.{off_link}
+use Rattle.vcpu_run.proofs.LoginsTold.{true_false}
 use Rattle.vcpu_run.proofs.seat.fail.Goals as goal
 
 pub returns-in_err-reserve-clause-drives : goal.returns-in_err-reserve-clause-drives
@@ -106,3 +108,19 @@ returns-in-Busy-clause-shuts c =
     c.args.pair.now.link c.fail.new.self.link.now c.side-end.ensures.link c.side-end.ensures.first (ap (λ (p : EndPlace). p.first) (c.fail.ensures.rest.place ∙ room.place) ∙ c.side-end.ensures.first)
     (shuts_on (state_of c.side-end.result) (state_of c.reserve.new.self) (state_of c.fail.new.self) (shuts_ready (state_of c.side-end.result) (state_of c.reserve.new.self) room)
     (shuts_same (state_of c.reserve.new.self) (state_of c.fail.new.self) c.in-Busy.ensures.busy.none.sent c.in-Busy.ensures.busy.kept (c.in-Busy.ensures.busy.still ∙ sym c.in-Busy.ensures.busy.registered)))
+
+pub returns-in-Success-clause-down : goal.returns-in-Success-clause-down
+returns-in-Success-clause-down c = λ is.
+    let room = c.in_ok-reserve.ensures.rest in
+    subst (λ (l : PlainLink). (side_of l false).registered ≡ false) (sym c.freed.ensures.link)
+    (off_link c.fail.new.self.first (c.fail.new.self.link.ghost_name ∷ []) c.fail.new.self.link.now (ap (λ (p : EndPlace). p.first) (c.fail.ensures.rest.place ∙ room.place) ∙ c.side-end.ensures.first)
+    c.in-Success.ensures.success.freed)
+
+pub returns-in-Parameter-clause-down : goal.returns-in-Parameter-clause-down
+returns-in-Parameter-clause-down c = λ is.
+    let room = c.in_ok-reserve.ensures.rest in
+    off_link c.fail.new.self.first (c.fail.new.self.link.ghost_name ∷ []) c.fail.new.self.link.now (ap (λ (p : EndPlace). p.first) (c.fail.ensures.rest.place ∙ room.place) ∙ c.side-end.ensures.first)
+    (c.in-Parameter.ensures.refused.registered ∙ c.fail.ensures.parameter.0 c.in-Parameter.is)
+
+pub returns-in-Busy-clause-down : goal.returns-in-Busy-clause-down
+returns-in-Busy-clause-down c = λ is. absurd (true_false true refl (sym is))

@@ -1,4 +1,4 @@
-use Rattle.std.proofs.Common.{rules, ◌≡◌, ◌∙◌, ◌∷◌, [], OnOk, Some, ap, refl, subst}
+use Rattle.std.proofs.Common.{rules, ◌≡◌, ◌∙◌, ◌∷◌, [], false, OnOk, Some, ap, refl, subst}
 use Rattle.crq_session.specs.EndState.{EndPlace}
 use Rattle.crq_session.specs.declared.link.PlainLink.{PlainLink}
 use Rattle.vcpu_run.specs.declared.pair.Pair.{Pair}
@@ -8,6 +8,8 @@ use Rattle.vcpu_run.specs.EventsMade.{PairCalm}
 use Rattle.vcpu_run.proofs.CalmTurns.{calm_link}
 use Rattle.vcpu_run.specs.Pairs.{Drives}
 use Rattle.vcpu_run.proofs.StepDrives.{step_drives}
+use Rattle.crq_session.specs.PlainState.{side_of}
+use Rattle.vcpu_run.proofs.FailedShut.{queue_link}
 use Rattle.vcpu_run.proofs.ClientsLay.{lays_none}
 use Rattle.vcpu_run.proofs.seat.take_rest.Goals as goal
 
@@ -47,3 +49,13 @@ returns-clause-drives c =
 pub returns-clause-lays : goal.returns-clause-lays
 returns-clause-lays c =
     lays_none c.args.pair.now _ c.take_rest.ensures.works.window.place c.take_rest.ensures.works.lays
+
+pub returns-clause-queue : goal.returns-clause-queue
+returns-clause-queue c =
+    let old = c.args.pair.now in
+    let end = c.take_rest.new.crq.end in
+    let lent = c.side.result.link in
+    let link_is : end.link.now ≡ c.pair-2-1.given.0 = search rules in
+    subst (λ (link : PlainLink). (side_of link false).registered ≡ (side_of old.link false).registered) link_is
+    (queue_link c.side.result.first end.first (lent.ghost_name ∷ []) (end.link.ghost_name ∷ []) lent.now old.link end.link.now
+    c.side.ensures.link c.side.ensures.first (ap (λ (p : EndPlace). p.first) c.take_rest.ensures.works.place ∙ c.side.ensures.first) c.take_rest.ensures.queue)

@@ -1,13 +1,15 @@
-use Rattle.std.proofs.Common.{◌∙◌, Some, ap, slice_index_or}
+use Rattle.std.proofs.Common.{◌∙◌, Some, ap, arith, refl, slice_index_or, sym, true}
 use Rattle.vcpu_run.specs.declared.unit_seat.Seat.TheVariants as places
-use Rattle.vcpu_run.proofs.CalmTurns.{shut_then}
-use Rattle.vcpu_run.proofs.ClientsLay.{none_lay_on}
+use Rattle.vcpu_run.proofs.CalmTurns.{shut_none, shut_then}
+use Rattle.vcpu_run.proofs.ClientsLay.{none_lay_on, none_lay_same}
 use Rattle.vcpu_run.proofs.ValuesKept.{values_then}
-use Rattle.vcpu_run.proofs.Agreeing.{all_on}
-use Rattle.vcpu_run.proofs.Elsewhere.{else_on, else_within}
-use Rattle.vcpu_run.proofs.Driving.{driven_on, seat_of, still_clients}
-use Rattle.vcpu_run.proofs.PortTurns.{apart_on, beside_apart, silent_on}
-use Rattle.vcpu_run.proofs.GivesAll.{all_give_on}
+use Rattle.vcpu_run.proofs.Agreeing.{all_on, all_same}
+use Rattle.vcpu_run.proofs.Elsewhere.{else_none, else_on, else_within}
+use Rattle.vcpu_run.proofs.Driving.{driven_on, driven_same, seat_of, still_clients}
+use Rattle.vcpu_run.proofs.PortTurns.{apart_on, beside_apart, idle_same, silent_on, silent_same}
+use Rattle.vcpu_run.proofs.GivesAll.{all_give_on, all_give_same}
+use Rattle.vcpu_run.proofs.FailedShut.{shut_all, shut_before, shut_next}
+use Rattle.vcpu_run.proofs.LoginsTold.{true_false}
 use Rattle.vcpu_run.proofs.seats.fail.Goals as goal
 
 pub fail_at-requires-clause-client : goal.fail_at-requires-clause-client
@@ -31,6 +33,8 @@ loop-k-preserved c = record {
   values = values_then c.args.pairs.now c.loop-k.pairs c.fail_at.new.pairs c.loop-k.invariant.values c.fail_at.ensures.values;
   lays = none_lay_on c.args.pairs.now c.loop-k.pairs c.fail_at.new.pairs c.loop-k.invariant.lays c.fail_at.ensures.lays;
   shut = shut_then c.args.pairs.now c.loop-k.pairs c.fail_at.new.pairs c.loop-k.invariant.shut c.fail_at.ensures.shut;
+  down = shut_next c.args.seats.now c.loop-k.k (slice_index_or c.args.seats.now c.loop-k.k places.Server) c.loop-k.pairs c.fail_at.new.pairs
+      (seat_of c.args.seats.now c.loop-k.k c.loop-k-test.true) c.fail_at.ensures.others (c.in_ok-fail_at.ensures.down (grind arith)) c.loop-k.invariant.down;
   others = else_on c.args.seats.now c.args.pairs.now c.loop-k.pairs c.fail_at.new.pairs c.loop-k.invariant.others
       (else_within c.args.seats.now c.loop-k.k (slice_index_or c.args.seats.now c.loop-k.k places.Server) c.loop-k.pairs c.fail_at.new.pairs
       (seat_of c.args.seats.now c.loop-k.k c.loop-k-test.true) c.fail_at.ensures.others);
@@ -98,3 +102,26 @@ returns-in_err-fail_at-clause-lays c = none_lay_on c.args.pairs.now c.loop-k.pai
 
 pub returns-then-not-branch-clause-lays : goal.returns-then-not-branch-clause-lays
 returns-then-not-branch-clause-lays c = none_lay_on c.args.pairs.now c.loop-k.pairs c.fail_at.new.pairs c.loop-k.invariant.lays c.fail_at.ensures.lays
+
+pub loop-k-init : goal.loop-k-init
+loop-k-init c = record {
+  driven = driven_same c.args.pairs.now;
+  gives = all_give_same c.args.pairs.now;
+  values = λ k. refl;
+  lays = none_lay_same c.args.pairs.now;
+  shut = shut_none c.args.pairs.now;
+  down = shut_before c.args.seats.now c.args.pairs.now;
+  others = else_none c.args.seats.now c.args.pairs.now;
+  credit = all_same c.args.pairs.now;
+  clients = c.requires.clients;
+  ports = c.requires.ports;
+  lan = refl;
+  idle = silent_same c.args.lan.now;
+  apart = λ unit _. idle_same c.args.lan.now unit;
+}
+
+pub returns-then-not-branch-clause-down : goal.returns-then-not-branch-clause-down
+returns-then-not-branch-clause-down c = λ is. absurd (true_false true refl (sym is))
+
+pub returns-clause-down : goal.returns-clause-down
+returns-clause-down c = λ is. shut_all c.args.seats.now c.loop-k.k c.loop-k.pairs (omega (arith, c.loop-k-test.false)) c.loop-k.invariant.down

@@ -5,6 +5,7 @@ use Rattle.vcpu_run.specs.Ports.{HavePorts}
 use Rattle.vcpu_run.specs.PortSteps.{AllSilent, IsApart}
 use Rattle.vcpu_run.specs.TakenScripts.{AllGive}
 use Rattle.vcpu_run.specs.EventsMade.{AllShut}
+use Rattle.vcpu_run.specs.FailedShut.{AreShutTo}
 use Rattle.vcpu_run.specs.ClientStrokes.{NoneLay}
 use Rattle.vcpu_run.specs.ValuesPut.{AllSameValues}
 use Rattle.vcpu_run.specs.Works.{HaveClients}
@@ -17,6 +18,7 @@ invariant-loop-k l = record {
   values : AllSameValues l.initial.pairs l.pairs;
   lays : NoneLay l.initial.pairs l.pairs;
   shut : AllShut l.initial.pairs l.pairs;
+  down : AreShutTo l.k l.seats l.pairs;
   others : SameElse l.seats l.initial.pairs l.pairs;
   credit : AllSame l.initial.pairs l.pairs;
   clients : HaveClients l.seats l.pairs;

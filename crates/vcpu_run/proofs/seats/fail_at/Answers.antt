@@ -1,4 +1,4 @@
-use Rattle.std.proofs.Common.{◌∷◌, [], Some, ap}
+use Rattle.std.proofs.Common.{◌≡◌, ◌∙◌, ◌∷◌, [], ℕ, Some, ap, slice_get, subst, sym}
 use Rattle.vcpu_run.proofs.Driving.{seat_within}
 use Rattle.vcpu_run.proofs.Elsewhere.{else_one}
 use Rattle.vcpu_run.proofs.PortRising.{all_silent, closes_beside}
@@ -7,6 +7,10 @@ use Rattle.vcpu_run.proofs.Crediting.{on_ok}
 use Rattle.vcpu_run.proofs.GivesAll.{all_give_same}
 use Rattle.vcpu_run.proofs.CalmTurns.{shut_none}
 use Rattle.vcpu_run.proofs.ClientsLay.{none_lay_same}
+use Rattle.vcpu_run.specs.declared.unit_seat.Seat.TheVariants as sits
+use Rattle.vcpu_run.specs.FailedShut.{opens_if}
+use Rattle.vcpu_run.proofs.PortsResting.{ok_any}
+use Rattle.vcpu_run.proofs.Resting.{ok_more}
 use Rattle.vcpu_run.proofs.seats.fail_at.Goals as goal
 
 pub fail_of-requires-clause-there : goal.fail_of-requires-clause-there
@@ -49,3 +53,18 @@ returns-in-Port-clause-lays c = none_lay_same c.args.pairs.now
 
 pub returns-in-Server-clause-lays : goal.returns-in-Server-clause-lays
 returns-in-Server-clause-lays c = none_lay_same c.args.pairs.now
+
+pub returns-in-Client-clause-down : goal.returns-in-Client-clause-down
+returns-in-Client-clause-down c =
+    ok_more c.fail_of.result _ _
+    (λ done off is k at. subst (λ (n : ℕ). opens_if (slice_get c.fail_of.new.pairs n) ≡ 0) (client_here c.in-Client.pair k (sym c.in-Client.is ∙ at)) (off is))
+    c.fail_of.ensures.down
+  where
+    client_here : (j k : ℕ) → sits.Client j ≡ sits.Client k → j ≡ k
+    client_here j k e = cc
+
+pub returns-in-Port-clause-down : goal.returns-in-Port-clause-down
+returns-in-Port-clause-down c = ok_any c.fail.result _ (λ done is k at. absurd (cc (c.in-Port.is, at)))
+
+pub returns-in-Server-clause-down : goal.returns-in-Server-clause-down
+returns-in-Server-clause-down c = λ is k at. absurd (cc (c.in-Server.is, at))

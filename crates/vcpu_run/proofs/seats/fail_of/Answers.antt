@@ -5,6 +5,8 @@ use Rattle.vcpu_run.proofs.Agreeing.{set_all, set_beside}
 use Rattle.vcpu_run.proofs.Driving.{driven_set, some_there}
 use Rattle.vcpu_run.proofs.GivesAll.{all_give_ok}
 use Rattle.vcpu_run.proofs.CalmTurns.{shut_set}
+use Rattle.vcpu_run.proofs.FailedShut.{off_set}
+use Rattle.vcpu_run.proofs.Resting.{ok_more}
 use Rattle.vcpu_run.proofs.seats.fail_of.Goals as goal
 
 pub fail-requires : goal.fail-requires
@@ -33,3 +35,6 @@ returns-clause-shut c = shut_set c.args.pairs.now c.args.pair _ c.fail.new.pair 
 pub returns-clause-lays : goal.returns-clause-lays
 returns-clause-lays c =
     none_lay_set c.args.pairs.now c.args.pair _ c.fail.new.pair (slice_get-get_or c.args.pairs.now c.args.pair _ c.requires.there) (lays_kept _ c.fail.new.pair c.fail.ensures.window)
+
+pub returns-clause-down : goal.returns-clause-down
+returns-clause-down c = ok_more c.fail.result _ _ (λ done off is. off_set c.args.pairs.now c.args.pair c.fail.new.pair c.requires.there (off is)) c.fail.ensures.down

@@ -101,3 +101,14 @@ pub returns-in-Some-clause-region : goal.returns-in-Some-clause-region
 returns-in-Some-clause-region c =
     let calls : is_call c.args.line.now.verb ≡ true = search rules in
     line_apart c.args.seats.now c.args.line.now c.args.pairs.now c.make_call.new.pairs c.make_call.result (call_apart c.args.line.now.verb calls)
+
+pub returns-in-Some-clause-drivers : goal.returns-in-Some-clause-drivers
+returns-in-Some-clause-drivers c = λ is. c.make_call.ensures.told
+
+pub returns-in-None-clause-drivers : goal.returns-in-None-clause-drivers
+returns-in-None-clause-drivers c = λ is.
+    let none : is_call c.args.line.now.verb ≡ false = search rules in
+    absurd (not_both (is_call c.args.line.now.verb) is none)
+  where
+    not_both : (b : Bool) → b ≡ true → b ≡ false → ⊥
+    not_both b is other = cc

@@ -1,6 +1,7 @@
 use Rattle.std.proofs.lemmas.Option.{slice_get_within}
 use Rattle.vcpu_run.specs.Links.{links_of}
 use Rattle.vcpu_run.proofs.CalmTurns.{calm_none, calm_then}
+use Rattle.vcpu_run.proofs.FailedShut.{stay_none, stay_then}
 use Rattle.vcpu_run.proofs.ClientsLay.{none_lay_on, none_lay_same}
 use Rattle.vcpu_run.proofs.ValuesKept.{values_then}
 use Rattle.vcpu_run.proofs.Resting.{rests_next, rests_on, rests_same}
@@ -40,6 +41,7 @@ loop-k-preserved c = record {
   values = values_then c.args.pairs.now c.loop-k.pairs c.take_rest_at.new.pairs c.loop-k.invariant.values c.take_rest_at.ensures.values;
   lays = none_lay_on c.args.pairs.now c.loop-k.pairs c.take_rest_at.new.pairs c.loop-k.invariant.lays c.take_rest_at.ensures.lays;
   calm = calm_then c.args.pairs.now c.loop-k.pairs c.take_rest_at.new.pairs c.loop-k.invariant.calm c.take_rest_at.ensures.calm;
+  stay = stay_then c.args.pairs.now c.loop-k.pairs c.take_rest_at.new.pairs c.loop-k.invariant.stay c.take_rest_at.ensures.stays_shut;
   others = else_on c.args.seats.now c.args.pairs.now c.loop-k.pairs c.take_rest_at.new.pairs c.loop-k.invariant.others
       (else_within c.args.seats.now c.loop-k.k (slice_index_or c.args.seats.now c.loop-k.k places.Server) c.loop-k.pairs c.take_rest_at.new.pairs
       (seat_of c.args.seats.now c.loop-k.k c.loop-k-test.true) c.take_rest_at.ensures.others);
@@ -79,6 +81,7 @@ loop-k-init c = record {
   values = λ k. refl;
   lays = none_lay_same c.args.pairs.now;
   calm = calm_none c.args.pairs.now;
+  stay = stay_none c.args.pairs.now;
   others = else_none c.args.seats.now c.args.pairs.now;
   clients = c.requires.clients;
   ports = c.requires.ports;
@@ -108,3 +111,6 @@ returns-in_err-here-clause-calm c = calm_then c.args.pairs.now c.loop-k.pairs c.
 
 pub returns-in_err-here-clause-lays : goal.returns-in_err-here-clause-lays
 returns-in_err-here-clause-lays c = none_lay_on c.args.pairs.now c.loop-k.pairs c.take_rest_at.new.pairs c.loop-k.invariant.lays c.take_rest_at.ensures.lays
+
+pub returns-in_err-here-clause-stays_shut : goal.returns-in_err-here-clause-stays_shut
+returns-in_err-here-clause-stays_shut c = stay_then c.args.pairs.now c.loop-k.pairs c.take_rest_at.new.pairs c.loop-k.invariant.stay c.take_rest_at.ensures.stays_shut

@@ -12,6 +12,7 @@ use Rattle.vcpu_run.specs.Ports.{HavePorts}
 use Rattle.vcpu_run.specs.PortSteps.{AllTake, IsApart}
 use Rattle.vcpu_run.specs.TakenScripts.{AllGive}
 use Rattle.vcpu_run.specs.EventsMade.{AllCalm}
+use Rattle.vcpu_run.specs.FailedShut.{AllStayShut}
 use Rattle.vcpu_run.specs.ClientStrokes.{NoneLay}
 use Rattle.vcpu_run.specs.ValuesPut.{AllSameValues}
 use Rattle.vcpu_run.specs.Works.{HaveClients}
@@ -24,6 +25,7 @@ invariant-loop-k l = record {
   values : AllSameValues l.initial.pairs l.pairs;
   lays : NoneLay l.initial.pairs l.pairs;
   calm : AllCalm l.initial.pairs l.pairs;
+  stay : AllStayShut l.initial.pairs l.pairs;
   others : SameElse l.seats l.initial.pairs l.pairs;
   clients : HaveClients l.seats l.pairs;
   ports : HavePorts l.partition l.seats l.lan.seats;

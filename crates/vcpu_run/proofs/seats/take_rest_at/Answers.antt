@@ -9,6 +9,7 @@ use Rattle.vcpu_run.proofs.Crediting.{on_ok}
 use Rattle.vcpu_run.proofs.GivesAll.{all_give_same}
 use Rattle.vcpu_run.proofs.PortsResting.{ok_any, seat_none, seat_port}
 use Rattle.vcpu_run.proofs.CalmTurns.{calm_none}
+use Rattle.vcpu_run.proofs.FailedShut.{stay_none}
 use Rattle.vcpu_run.proofs.ClientsLay.{none_lay_same}
 use Rattle.vcpu_run.proofs.seats.take_rest_at.Goals as goal
 
@@ -67,3 +68,9 @@ returns-in-Port-clause-lays c = none_lay_same c.args.pairs.now
 
 pub returns-in-Server-clause-lays : goal.returns-in-Server-clause-lays
 returns-in-Server-clause-lays c = none_lay_same c.args.pairs.now
+
+pub returns-in-Port-clause-stays_shut : goal.returns-in-Port-clause-stays_shut
+returns-in-Port-clause-stays_shut c = stay_none c.args.pairs.now
+
+pub returns-in-Server-clause-stays_shut : goal.returns-in-Server-clause-stays_shut
+returns-in-Server-clause-stays_shut c = stay_none c.args.pairs.now

@@ -1,4 +1,5 @@
 use Rattle.vcpu_run.specs.Links.{ClientWaits}
+use Rattle.vcpu_run.proofs.FailedShut.{stay_set}
 use Rattle.vcpu_run.proofs.ClientsLay.{none_lay_set}
 use Rattle.vcpu_run.proofs.ValuesKept.{values_set}
 use Rattle.vcpu_run.proofs.Resting.{ok_more, rests_set, waits_set}
@@ -49,3 +50,7 @@ returns-clause-calm c = calm_set c.args.pairs.now c.args.pair _ c.take_rest.new.
 pub returns-clause-lays : goal.returns-clause-lays
 returns-clause-lays c =
     none_lay_set c.args.pairs.now c.args.pair _ c.take_rest.new.pair (slice_get-get_or c.args.pairs.now c.args.pair _ c.requires.there) c.take_rest.ensures.lays
+
+pub returns-clause-stays_shut : goal.returns-clause-stays_shut
+returns-clause-stays_shut c =
+    stay_set c.args.pairs.now c.args.pair _ c.take_rest.new.pair (slice_get-get_or c.args.pairs.now c.args.pair _ c.requires.there) c.take_rest.ensures.queue

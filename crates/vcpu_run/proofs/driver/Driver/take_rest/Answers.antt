@@ -18,6 +18,7 @@ pub loop-taken-preserved : goal.loop-taken-preserved
 loop-taken-preserved g c = record {
   works = works_on _ _ _ _ _ _ _ _ _ _ _ _ c.loop-taken.invariant.works c.take_one.ensures.works;
   values = c.take_one.ensures.values ∙ c.loop-taken.invariant.values;
+  queue = c.take_one.ensures.queue ∙ c.loop-taken.invariant.queue;
   pages = subst (λ (place : PortPlace). MIN_PAGES ≤ place.size) (sym c.take_one.ensures.works.window.place) c.loop-taken.invariant.pages;
   gives = gives_on c.args.self.now c.loop-taken.self c.take_one.new.self (g.C.CrqEnd.state c.args.crq.now.end) (g.C.CrqEnd.state c.loop-taken.crq.end) (g.C.CrqEnd.state c.take_one.new.crq.end)
       c.loop-taken.invariant.gives c.in_ok-take_one.ensures.gives;
@@ -51,6 +52,7 @@ pub loop-taken-init : goal.loop-taken-init
 loop-taken-init g c = record {
   works = works_same false g.C.CrqEnd.is_shared g.O.WindowPort.is_shared (g.C.CrqEnd.state c.args.crq.now.end) (g.O.WindowPort.state c.args.own.now) c.args.self.now;
   values = refl;
+  queue = refl;
   pages = c.requires;
   gives = gives_same c.args.self.now (g.C.CrqEnd.state c.args.crq.now.end);
   fresh = λ is. refl;

@@ -9,6 +9,7 @@ abbrev pub invariant-loop-taken : goal.invariant-loop-taken
 invariant-loop-taken g l = record {
   works : Works false g.C.CrqEnd.is_shared g.O.WindowPort.is_shared None (g.C.CrqEnd.state l.initial.crq.end) (g.C.CrqEnd.state l.crq.end) (g.O.WindowPort.state l.initial.own) (g.O.WindowPort.state l.own) l.initial.self l.self;
   values : (g.O.WindowPort.state l.own).values ≡ (g.O.WindowPort.state l.initial.own).values;
+  queue : (g.C.CrqEnd.state l.crq.end).registered ≡ (g.C.CrqEnd.state l.initial.crq.end).registered;
   pages : MIN_PAGES ≤ (g.O.WindowPort.state l.own).place.size;
   gives : Gives l.initial.self l.self (g.C.CrqEnd.state l.initial.crq.end) (g.C.CrqEnd.state l.crq.end);
   fresh : l.moved ≡ Quiet → g.C.CrqEnd.state l.crq.end ≡ g.C.CrqEnd.state l.initial.crq.end;

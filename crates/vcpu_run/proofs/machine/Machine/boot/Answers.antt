@@ -1,3 +1,4 @@
+use Rattle.vcpu_run.proofs.DataNoted.{none_noted}
 use Rattle.vcpu_run.proofs.Waiting.{linked_closed}
 use Rattle.std.proofs.Common.{◌≡◌, ◌≤◌, List, [], length, vec_len, sym, ◌∙◌, ap, subst, arith, rules}
 use Rattle.rdma_copy.specs.declared.copy.CopyRecord.{CopyRecord}
@@ -83,7 +84,8 @@ returns-clause-credited g c =
     let scripts = c.in-Ok-make_scripts.scripts in
     let partitions = c.args.plan.now.partitions in
     let made : AreMade partitions scripts.items = rw (← c.as_slice-partitions.ensures) c.in-Ok-make_scripts.ensures in
-    credits_made partitions pairs.items scripts.items made c.in-Ok.ensures.out (λ k pair found. (c.in-Ok.ensures.fresh k pair found).bare)
+    credits_made _ partitions pairs.items scripts.items made c.in-Ok.ensures.out (λ k pair found. (c.in-Ok.ensures.fresh k pair found).bare)
+    (λ k pair found. none_noted pair (c.in-Ok.ensures.fresh k pair found).untaken)
 
 pub returns-clause-none : goal.returns-clause-none
 returns-clause-none g c = c.in_ok-server.ensures.history

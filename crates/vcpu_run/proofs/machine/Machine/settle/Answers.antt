@@ -5,7 +5,9 @@ use Rattle.vio_num.specs.declared.memory.NoMemory.{NoMemory}
 use Rattle.vcpu_run.specs.declared.pair.Pair.{Pair}
 use Rattle.vcpu_run.specs.declared.script.Script.{Script}
 use Rattle.block_server.specs.Receipts.{GrantsMany}
+use Rattle.rdma_copy.specs.declared.copy.CopyRecord.{CopyRecord}
 use Rattle.vcpu_run.specs.Agreed.{AreCredited}
+use Rattle.vcpu_run.specs.CopiesCounted.{copies_at}
 use Rattle.vcpu_run.specs.Answered.{AreAnswered}
 use Rattle.vcpu_run.specs.Holding.{KeepQueues}
 use Rattle.vcpu_run.specs.Lines.{IsOver}
@@ -60,13 +62,17 @@ trace_of-trace-requires-clause-credited g c =
     lent old.len old.items new size (c.run-run.ensures.stay.count ∙ ap length c.deref_mut.ensures.value) in
     let scripts : take old_scripts.len (new_scripts ++ drop (length new_scripts) old_scripts.items) ≡ new_scripts =
     lent old_scripts.len old_scripts.items new_scripts size_scripts (c.run-run.ensures.run.count ∙ ap length c.deref_mut-2.ensures.value) in
-    let before : AreCredited c.deref_mut.result.now c.deref_mut-2.result.now =
-    subst (λ (list : List Pair). AreCredited list c.deref_mut-2.result.now) (sym c.deref_mut.ensures.value)
-    (subst (λ (list : List Script). AreCredited old.items list) (sym c.deref_mut-2.ensures.value) c.requires.credited) in
-    ok_then c.run-run.result (AreCredited c.deref_mut.result.now c.deref_mut-2.result.now → AreCredited new new_scripts) _
+    let of : List CopyRecord → List Pair → List Script → Type 0 = λ copies list scripts. AreCredited (copies_at copies list) list scripts in
+    let was = c.args.self.server.copies.items in
+    let now = c.run-run.new.server.copies.items in
+    let before : of was c.deref_mut.result.now c.deref_mut-2.result.now =
+    subst (λ (list : List Pair). of was list c.deref_mut-2.result.now) (sym c.deref_mut.ensures.value)
+    (subst (λ (list : List Script). of was old.items list) (sym c.deref_mut-2.ensures.value) c.requires.credited) in
+    ok_then c.run-run.result (of was c.deref_mut.result.now c.deref_mut-2.result.now → of now new new_scripts) _
     (λ kept.
-    subst (λ (list : List Pair). AreCredited list (take old_scripts.len (new_scripts ++ drop (length new_scripts) old_scripts.items))) (sym pairs)
-    (subst (λ (list : List Script). AreCredited new list) (sym scripts) (kept before)))
+    rw c.finish-image.ensures.copies
+    (subst (λ (list : List Pair). of now list (take old_scripts.len (new_scripts ++ drop (length new_scripts) old_scripts.items))) (sym pairs)
+    (subst (λ (list : List Script). of now new list) (sym scripts) (kept before))))
     c.run-run.ensures.credited
 
 pub trace_of-trace-requires-clause-over : goal.trace_of-trace-requires-clause-over

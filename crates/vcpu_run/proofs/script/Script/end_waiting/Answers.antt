@@ -7,8 +7,10 @@ use Rattle.unit_region.specs.declared.step.Step.TheVariants as steps
 use Rattle.vcpu_run.specs.Credited.{StepsAgreed, grants, is_take, taken_in}
 use Rattle.vcpu_run.specs.CallsSaid.{seen_from}
 use Rattle.vcpu_run.specs.Suited.{IsLineAt, is_call}
+use Rattle.vcpu_run.proofs.DataNoted.{keep_same}
 use Rattle.vcpu_run.proofs.CallsKept.{says_none}
 use Rattle.vcpu_run.proofs.CallRecords.{calls_ends}
+use Rattle.vcpu_run.specs.DataKept.{range_in}
 use Rattle.vcpu_run.specs.DataRead.{given_by}
 use Rattle.vcpu_run.proofs.LinesRead.{always_read}
 use Rattle.vcpu_run.proofs.ClientRecords.{logs_ends_none}
@@ -113,7 +115,7 @@ returns-clause-unfreed c = λ pairs script opens keep.
     waited_held pairs c.args.self.now c.end.new.self c.in-Some.line.now c.match-line.outcome found script.seats opens c.end.ensures.rest.lines c.end.ensures.rest.seats keep
 
 pub returns-clause-logged : goal.returns-clause-logged
-returns-clause-logged c = λ pairs script is.
+returns-clause-logged c = λ pairs script copies made is.
     let found : slice_get c.args.self.now.lines.now c.args.self.now.at ≡ Some c.in-Some.line.now =
     slice_get_read c.args.self.now.lines.now (length c.args.self.now.lines.now) c.args.self.now.at c.in-Some.line.now refl
     (less_by c.args.self.now.at (length c.args.self.now.lines.now) (sym c.in-Some.ensures.lookup.0)) c.in-Some.ensures.lookup.1 in
@@ -135,6 +137,12 @@ returns-clause-logged c = λ pairs script is.
       | in-Reset w ↦ ap given_by w.in-Reset.is
       | in-Take w ↦ ap given_by w.in-Take.is
     ] in
+    let no_range : range_in c.in-Some.line.now.verb ≡ None =
+    elim c.match-line.branch [
+      | in-Login w ↦ ap range_in w.in-Login.is
+      | in-Reset w ↦ ap range_in w.in-Reset.is
+      | in-Take w ↦ ap range_in w.in-Take.is
+    ] in
     let other : is_call c.in-Some.line.now.verb ≡ false =
     elim c.match-line.branch [
       | in-Login w ↦ ap is_call w.in-Login.is
@@ -143,12 +151,12 @@ returns-clause-logged c = λ pairs script is.
     ] in
     record {
       strokes =
-          logs_ends_none pairs pairs c.args.self.now c.end.new.self c.in-Some.line.now _ found
+          logs_ends_none copies pairs pairs c.args.self.now c.end.new.self c.in-Some.line.now _ found
           (record { in_order = script.in_order; reached = script.logs.reached })
           (script.logs.reached (slice_get_within c.args.self.now.lines.now c.args.self.now.at c.in-Some.line.now found))
-          script.seats (none_lay_same pairs) apart
+          script.seats (all_same pairs) (keep_same pairs pairs (λ k. refl)) (none_lay_same pairs) apart
           (always_read c.args.self.now.seats.items c.in-Some.line.now pairs pairs c.match-line.outcome
-          (λ seen unit. waiting_shows c.args.self.now.progress c.in-Some.line.now.verb c.match-line.outcome seen unit c.in-Some.line.now.number ends) no_data) c.end.ensures.rest.partition c.end.ensures.rest.lines c.end.ensures.rest.seats c.in_ok-end.ensures.ended.logs is.strokes;
+          (λ seen unit. waiting_shows c.args.self.now.progress c.in-Some.line.now.verb c.match-line.outcome seen unit c.in-Some.line.now.number ends) no_data no_range) made c.end.ensures.rest.partition c.end.ensures.rest.lines c.end.ensures.rest.seats c.in_ok-end.ensures.ended.logs is.strokes;
       calls =
           calls_ends pairs pairs c.args.self.now c.end.new.self c.in-Some.line.now _ found
           (record { in_order = script.in_order; reached = script.logs.reached })

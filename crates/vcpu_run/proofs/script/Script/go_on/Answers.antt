@@ -1,4 +1,6 @@
 use Rattle.vcpu_run.specs.Links.{SeatsRest}
+use Rattle.vcpu_run.specs.TakenScripts.{AllGive}
+use Rattle.vcpu_run.proofs.DataNoted.{keep_gives}
 use Rattle.vcpu_run.proofs.Resting.{ok_more}
 use Rattle.std.proofs.Common.{◌∙◌, ◌≤◌, List, ap, length, is_some, subst, sym}
 use Rattle.vcpu_run.specs.declared.unit_seat.Seat.{Seat}
@@ -58,7 +60,7 @@ pub returns-in-None-clause-said : goal.returns-in-None-clause-said
 returns-in-None-clause-said c =
     let over : length c.args.self.now.lines.now ≤ c.args.self.now.at = over_by c.args.self.now.at (length c.args.self.now.lines.now) (sym c.get.ensures.lookup.0 ∙ ap is_some c.in-None.is) in
     ok_then c.take_rest.result _ _ (λ gives no is.
-    over_told c.args.pairs.now c.take_rest.new.pairs c.args.self.now (slice_get_past c.args.self.now.lines.now c.args.self.now.at over) c.requires.script.seats c.take_rest.ensures.driven gives c.take_rest.ensures.values c.take_rest.ensures.calm is)
+    over_told c.args.pairs.now c.take_rest.new.pairs c.args.self.now (slice_get_past c.args.self.now.lines.now c.args.self.now.at over) c.requires.script.seats c.take_rest.ensures.driven gives c.take_rest.ensures.values c.take_rest.ensures.calm c.take_rest.ensures.stays_shut is)
     c.take_rest.ensures.gives
 
 pub returns-in-None-clause-out : goal.returns-in-None-clause-out
@@ -87,7 +89,9 @@ returns-in-Some-clause-ports c = ok_more c.step.result _ _ (λ moved left is ove
 
 pub returns-in-None-clause-logged : goal.returns-in-None-clause-logged
 returns-in-None-clause-logged c =
-    on_ok c.take_rest.result _ (λ is. record {
-      strokes = logs_still c.args.pairs.now c.take_rest.new.pairs c.args.self.now c.take_rest.ensures.lays is.strokes;
+    ok_then c.take_rest.result (AllGive c.args.pairs.now c.take_rest.new.pairs) _ (λ gives copies made is. record {
+      strokes = logs_still copies c.args.pairs.now c.take_rest.new.pairs c.args.self.now (driven_stay c.args.pairs.now c.take_rest.new.pairs c.take_rest.ensures.driven)
+          (keep_gives c.args.pairs.now c.take_rest.new.pairs gives) c.take_rest.ensures.lays is.strokes;
       calls = calls_still c.args.pairs.now c.take_rest.new.pairs c.args.self.now (driven_stay c.args.pairs.now c.take_rest.new.pairs c.take_rest.ensures.driven) c.take_rest.ensures.lays is.calls;
     })
+    c.take_rest.ensures.gives

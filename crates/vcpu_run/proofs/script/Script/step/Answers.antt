@@ -1,4 +1,8 @@
 use Rattle.vcpu_run.proofs.Resting.{not_quiet, ok_more}
+use Rattle.vcpu_run.specs.NotedOn.{AllKeepNoted}
+use Rattle.vcpu_run.specs.Machines.{AllStay}
+use Rattle.vcpu_run.proofs.DataNoted.{keep_line}
+use Rattle.vcpu_run.proofs.Keeping.{drivers_driven}
 use Rattle.vcpu_run.specs.declared.unit_seat.Seat.{Seat}
 use Rattle.vcpu_run.specs.Freed.{FreesNoneIf}
 use Rattle.vcpu_run.specs.Freeing.{IsSpared}
@@ -114,31 +118,39 @@ returns-in_ok-end-in-Ends c =
           (subst (λ (st : Step). StepsLine c.args.self.now.seats.items c.args.line.now (taken_in c.args.self.now.progress) (taken_in c.step_unit.new.progress) c.args.pairs.now c.step_unit.new.pairs (Ok st)) c.in-Ends.is
           (rw (← c.deref.ensures.value) c.in_ok-step.ensures.credit))
           c.end.ensures.rest.lines c.end.ensures.rest.seats c.in_ok-end-in-Ends.ensures.ended.logs c.in_ok-end-in-Ends.ensures.ended.none is;
-      logged = λ is. record {
-        strokes =
-            logs_ends c.args.pairs.now c.step_unit.new.pairs c.args.self.now c.end.new.self c.args.line.now
-            (record { partition = c.args.self.now.partition; line = c.args.line.now.number; outcome = c.in-Ends.outcome })
-            c.requires.line (record { in_order = c.requires.script.in_order; reached = c.requires.script.logs.reached })
-            (c.requires.script.logs.reached (slice_get_within c.args.self.now.lines.now c.args.self.now.at c.args.line.now c.requires.line)) c.requires.script.seats
-            (subst (λ (seats : List Seat). LineLays seats c.args.line.now c.args.pairs.now c.step_unit.new.pairs) c.deref.ensures.value c.step_unit.ensures.lays)
-            (subst (λ (st : Step). LineStepped c.args.self.now.seats.items c.args.line.now c.args.pairs.now c.step_unit.new.pairs (Ok st)) c.in-Ends.is
-            (subst (λ (seats : List Seat). LineStepped seats c.args.line.now c.args.pairs.now c.step_unit.new.pairs (Ok c.in_ok-step.step)) c.deref.ensures.value c.in_ok-step.ensures.region))
-            (line_read c.args.self.now.seats.items c.args.line.now c.args.self.now.progress c.step_unit.new.progress c.args.pairs.now c.step_unit.new.pairs c.in-Ends.outcome
-            (λ no.
-            subst (λ (st : Step). LineTold c.args.self.now.seats.items c.args.line.now c.args.self.now.progress c.step_unit.new.progress c.args.pairs.now c.step_unit.new.pairs (Ok st)) c.in-Ends.is
-            (rw (← c.deref.ensures.value) (c.in_ok-step.ensures.said no))))
-            c.end.ensures.rest.partition c.end.ensures.rest.lines c.end.ensures.rest.seats c.in_ok-end-in-Ends.ensures.ended.logs is.strokes;
-        calls =
-            calls_ends c.args.pairs.now c.step_unit.new.pairs c.args.self.now c.end.new.self c.args.line.now
-            (record { partition = c.args.self.now.partition; line = c.args.line.now.number; outcome = c.in-Ends.outcome })
-            c.requires.line (record { in_order = c.requires.script.in_order; reached = c.requires.script.logs.reached })
-            (c.requires.script.logs.reached (slice_get_within c.args.self.now.lines.now c.args.self.now.at c.args.line.now c.requires.line))
-            (driven_stay c.args.pairs.now c.step_unit.new.pairs c.step_unit.ensures.driven)
-            (subst (λ (seats : List Seat). LineLays seats c.args.line.now c.args.pairs.now c.step_unit.new.pairs) c.deref.ensures.value c.step_unit.ensures.lays) is.strokes
-            (subst (λ (st : Step). StepSaid (seen_from c.args.self.now.partition c.args.self.now.seats.items c.step_unit.new.pairs) c.args.line.now.verb st) c.in-Ends.is
-            (rw (← c.deref.ensures.value) c.in_ok-step.ensures.called))
-            c.end.ensures.rest.partition c.end.ensures.rest.lines c.end.ensures.rest.seats c.in_ok-end-in-Ends.ensures.ended.logs is.calls;
-      };
+      logged = λ copies made is.
+          let stay : AllStay c.args.pairs.now c.step_unit.new.pairs = driven_stay c.args.pairs.now c.step_unit.new.pairs c.step_unit.ensures.driven in
+          let keep : AllKeepNoted c.args.pairs.now c.step_unit.new.pairs =
+          keep_line c.args.self.now.seats.items c.args.line.now c.args.self.now.progress c.step_unit.new.progress c.args.pairs.now c.step_unit.new.pairs (steps.Ends c.in-Ends.outcome) line.suited
+          c.step_unit.ensures.drivers (λ no.
+          subst (λ (st : Step). LineTold c.args.self.now.seats.items c.args.line.now c.args.self.now.progress c.step_unit.new.progress c.args.pairs.now c.step_unit.new.pairs (Ok st)) c.in-Ends.is
+          (rw (← c.deref.ensures.value) (c.in_ok-step.ensures.said no))) in
+          record {
+            strokes =
+                logs_ends copies c.args.pairs.now c.step_unit.new.pairs c.args.self.now c.end.new.self c.args.line.now
+                (record { partition = c.args.self.now.partition; line = c.args.line.now.number; outcome = c.in-Ends.outcome })
+                c.requires.line (record { in_order = c.requires.script.in_order; reached = c.requires.script.logs.reached })
+                (c.requires.script.logs.reached (slice_get_within c.args.self.now.lines.now c.args.self.now.at c.args.line.now c.requires.line)) c.requires.script.seats stay keep
+                (subst (λ (seats : List Seat). LineLays seats c.args.line.now c.args.pairs.now c.step_unit.new.pairs) c.deref.ensures.value c.step_unit.ensures.lays)
+                (subst (λ (st : Step). LineStepped c.args.self.now.seats.items c.args.line.now c.args.pairs.now c.step_unit.new.pairs (Ok st)) c.in-Ends.is
+                (subst (λ (seats : List Seat). LineStepped seats c.args.line.now c.args.pairs.now c.step_unit.new.pairs (Ok c.in_ok-step.step)) c.deref.ensures.value c.in_ok-step.ensures.region))
+                (line_read c.args.self.now.seats.items c.args.line.now c.args.self.now.progress c.step_unit.new.progress c.args.pairs.now c.step_unit.new.pairs c.in-Ends.outcome keep
+                (drivers_driven c.args.pairs.now c.step_unit.new.pairs c.step_unit.ensures.driven c.requires.pairs)
+                (λ no.
+                subst (λ (st : Step). LineTold c.args.self.now.seats.items c.args.line.now c.args.self.now.progress c.step_unit.new.progress c.args.pairs.now c.step_unit.new.pairs (Ok st)) c.in-Ends.is
+                (rw (← c.deref.ensures.value) (c.in_ok-step.ensures.said no)))) made
+                c.end.ensures.rest.partition c.end.ensures.rest.lines c.end.ensures.rest.seats c.in_ok-end-in-Ends.ensures.ended.logs is.strokes;
+            calls =
+                calls_ends c.args.pairs.now c.step_unit.new.pairs c.args.self.now c.end.new.self c.args.line.now
+                (record { partition = c.args.self.now.partition; line = c.args.line.now.number; outcome = c.in-Ends.outcome })
+                c.requires.line (record { in_order = c.requires.script.in_order; reached = c.requires.script.logs.reached })
+                (c.requires.script.logs.reached (slice_get_within c.args.self.now.lines.now c.args.self.now.at c.args.line.now c.requires.line))
+                (driven_stay c.args.pairs.now c.step_unit.new.pairs c.step_unit.ensures.driven)
+                (subst (λ (seats : List Seat). LineLays seats c.args.line.now c.args.pairs.now c.step_unit.new.pairs) c.deref.ensures.value c.step_unit.ensures.lays) is.strokes
+                (subst (λ (st : Step). StepSaid (seen_from c.args.self.now.partition c.args.self.now.seats.items c.step_unit.new.pairs) c.args.line.now.verb st) c.in-Ends.is
+                (rw (← c.deref.ensures.value) c.in_ok-step.ensures.called))
+                c.end.ensures.rest.partition c.end.ensures.rest.lines c.end.ensures.rest.seats c.in_ok-end-in-Ends.ensures.ended.logs is.calls;
+          };
       told = λ tells.
           step_tells c.args.lan.now c.step_unit.new.lan c.args.self.now c.end.new.self c.args.line.now
           (record { partition = c.args.self.now.partition; line = c.args.line.now.number; outcome = c.in-Ends.outcome }) (done_in c.step_unit.new.progress)
@@ -190,21 +202,28 @@ returns-in-Waits c =
           c.requires.line line.suited c.requires.script.seats
           (subst (λ (st : Step). StepsLine c.args.self.now.seats.items c.args.line.now (taken_in c.args.self.now.progress) (taken_in c.step_unit.new.progress) c.args.pairs.now c.step_unit.new.pairs (Ok st)) c.in-Waits.is
           (rw (← c.deref.ensures.value) c.in_ok-step.ensures.credit)) is;
-      logged = λ is. record {
-        strokes =
-            logs_waits c.args.pairs.now c.step_unit.new.pairs c.args.self.now c.step_unit.new.progress c.args.line.now c.in-Waits.moved c.requires.line
-            (record { in_order = c.requires.script.in_order; reached = c.requires.script.logs.reached })
-            (c.requires.script.logs.reached (slice_get_within c.args.self.now.lines.now c.args.self.now.at c.args.line.now c.requires.line)) c.requires.script.seats
-            (subst (λ (seats : List Seat). LineLays seats c.args.line.now c.args.pairs.now c.step_unit.new.pairs) c.deref.ensures.value c.step_unit.ensures.lays)
-            (subst (λ (st : Step). LineStepped c.args.self.now.seats.items c.args.line.now c.args.pairs.now c.step_unit.new.pairs (Ok st)) c.in-Waits.is
-            (subst (λ (seats : List Seat). LineStepped seats c.args.line.now c.args.pairs.now c.step_unit.new.pairs (Ok c.in_ok-step.step)) c.deref.ensures.value c.in_ok-step.ensures.region)) is.strokes;
-        calls =
-            calls_waits c.args.pairs.now c.step_unit.new.pairs c.args.self.now c.step_unit.new.progress c.args.line.now c.requires.line
-            (record { in_order = c.requires.script.in_order; reached = c.requires.script.logs.reached })
-            (c.requires.script.logs.reached (slice_get_within c.args.self.now.lines.now c.args.self.now.at c.args.line.now c.requires.line))
-            (driven_stay c.args.pairs.now c.step_unit.new.pairs c.step_unit.ensures.driven)
-            (subst (λ (seats : List Seat). LineLays seats c.args.line.now c.args.pairs.now c.step_unit.new.pairs) c.deref.ensures.value c.step_unit.ensures.lays) is.calls;
-      };
+      logged = λ copies made is.
+          let stay : AllStay c.args.pairs.now c.step_unit.new.pairs = driven_stay c.args.pairs.now c.step_unit.new.pairs c.step_unit.ensures.driven in
+          let keep : AllKeepNoted c.args.pairs.now c.step_unit.new.pairs =
+          keep_line c.args.self.now.seats.items c.args.line.now c.args.self.now.progress c.step_unit.new.progress c.args.pairs.now c.step_unit.new.pairs (steps.Waits c.in-Waits.moved) line.suited
+          c.step_unit.ensures.drivers (λ no.
+          subst (λ (st : Step). LineTold c.args.self.now.seats.items c.args.line.now c.args.self.now.progress c.step_unit.new.progress c.args.pairs.now c.step_unit.new.pairs (Ok st)) c.in-Waits.is
+          (rw (← c.deref.ensures.value) (c.in_ok-step.ensures.said no))) in
+          record {
+            strokes =
+                logs_waits copies c.args.pairs.now c.step_unit.new.pairs c.args.self.now c.step_unit.new.progress c.args.line.now c.in-Waits.moved c.requires.line
+                (record { in_order = c.requires.script.in_order; reached = c.requires.script.logs.reached })
+                (c.requires.script.logs.reached (slice_get_within c.args.self.now.lines.now c.args.self.now.at c.args.line.now c.requires.line)) c.requires.script.seats stay keep
+                (subst (λ (seats : List Seat). LineLays seats c.args.line.now c.args.pairs.now c.step_unit.new.pairs) c.deref.ensures.value c.step_unit.ensures.lays)
+                (subst (λ (st : Step). LineStepped c.args.self.now.seats.items c.args.line.now c.args.pairs.now c.step_unit.new.pairs (Ok st)) c.in-Waits.is
+                (subst (λ (seats : List Seat). LineStepped seats c.args.line.now c.args.pairs.now c.step_unit.new.pairs (Ok c.in_ok-step.step)) c.deref.ensures.value c.in_ok-step.ensures.region)) is.strokes;
+            calls =
+                calls_waits c.args.pairs.now c.step_unit.new.pairs c.args.self.now c.step_unit.new.progress c.args.line.now c.requires.line
+                (record { in_order = c.requires.script.in_order; reached = c.requires.script.logs.reached })
+                (c.requires.script.logs.reached (slice_get_within c.args.self.now.lines.now c.args.self.now.at c.args.line.now c.requires.line))
+                (driven_stay c.args.pairs.now c.step_unit.new.pairs c.step_unit.ensures.driven)
+                (subst (λ (seats : List Seat). LineLays seats c.args.line.now c.args.pairs.now c.step_unit.new.pairs) c.deref.ensures.value c.step_unit.ensures.lays) is.calls;
+          };
       told = λ tells.
           port_waits c.args.lan.now c.step_unit.new.lan c.args.self.now (record c.args.self.now { progress = c.step_unit.new.progress }) c.args.line.now c.in-Waits.moved c.requires.line refl
           (λ call.

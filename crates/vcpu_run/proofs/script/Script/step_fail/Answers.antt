@@ -1,3 +1,4 @@
+use Rattle.vcpu_run.proofs.DataNoted.{keep_gives}
 use Rattle.vcpu_run.proofs.Resting.{not_quiet}
 use Rattle.std.proofs.Common.{◌≡◌, ◌+◌, ◌∙◌, List, ap, cond, length, refl, subst, sym, arith}
 use Rattle.std.proofs.lemmas.Option.{slice_get_within}
@@ -10,6 +11,7 @@ use Rattle.vcpu_run.proofs.PortLines.{fails_apart}
 use Rattle.vcpu_run.proofs.Crediting.{credited_all, credited_fails}
 use Rattle.vcpu_run.proofs.Driving.{clients_of}
 use Rattle.vcpu_run.specs.Agreed.{SameElse}
+use Rattle.vcpu_run.specs.FailedShut.{SeatsShut}
 use Rattle.vcpu_run.proofs.ScriptsTold.{fail_ends_told, fail_out, fail_waits_told}
 use Rattle.vcpu_run.proofs.Logging.{script_stays}
 use Rattle.vcpu_run.specs.declared.unit_seat.Seat.{Seat}
@@ -107,6 +109,7 @@ returns-then-branch-clause-said c = λ is.
     ∙ sym (ap (λ lines. length lines.now) c.end.ensures.rest.lines)) in
     fail_ends_told c.args.pairs.now c.fail.new.pairs c.args.self.now c.end.new.self c.args.line.now _ c.requires.line c.requires.fails
     c.requires.script.seats c.fail.ensures.driven c.in_ok-fail.ensures.gives c.fail.ensures.values c.fail.ensures.shut
+    (subst (λ (seats : List Seat). SeatsShut seats c.fail.new.pairs) c.deref.ensures.value (c.in_ok-fail.ensures.down (grind arith)))
     (c.requires.script.logs.reached (slice_get_within c.args.self.now.lines.now c.args.self.now.at c.args.line.now c.requires.line))
     refl c.end.ensures.rest.lines c.end.ensures.rest.seats c.in_ok-end.ensures.ended.logs over is
 
@@ -128,13 +131,14 @@ pub returns-clause-out : goal.returns-clause-out
 returns-clause-out c = λ is. fail_out c.fail.new.pairs c.args.self.now c.args.line.now c.requires.line (fails_reset c.args.line.now.verb c.requires.fails)
 
 pub returns-then-branch-clause-logged : goal.returns-then-branch-clause-logged
-returns-then-branch-clause-logged c = λ is. record {
+returns-then-branch-clause-logged c = λ copies made is. record {
   strokes =
-      logs_ends_none c.args.pairs.now c.fail.new.pairs c.args.self.now c.end.new.self c.args.line.now _ c.requires.line
+      logs_ends_none copies c.args.pairs.now c.fail.new.pairs c.args.self.now c.end.new.self c.args.line.now _ c.requires.line
       (record { in_order = c.requires.script.in_order; reached = c.requires.script.logs.reached })
       (c.requires.script.logs.reached (slice_get_within c.args.self.now.lines.now c.args.self.now.at c.args.line.now c.requires.line))
-      c.requires.script.seats c.fail.ensures.lays (fails_apart c.args.line.now.verb c.requires.fails)
-      (fails_read c.args.self.now.seats.items c.args.line.now c.args.pairs.now c.fail.new.pairs _ c.requires.fails)
+      c.requires.script.seats (driven_stay c.args.pairs.now c.fail.new.pairs c.fail.ensures.driven) (keep_gives c.args.pairs.now c.fail.new.pairs c.in_ok-fail.ensures.gives)
+      c.fail.ensures.lays (fails_apart c.args.line.now.verb c.requires.fails)
+      (fails_read c.args.self.now.seats.items c.args.line.now c.args.pairs.now c.fail.new.pairs _ c.requires.fails) made
       c.end.ensures.rest.partition c.end.ensures.rest.lines c.end.ensures.rest.seats c.in_ok-end.ensures.ended.logs is.strokes;
   calls =
       calls_ends c.args.pairs.now c.fail.new.pairs c.args.self.now c.end.new.self c.args.line.now _ c.requires.line
@@ -146,7 +150,8 @@ returns-then-branch-clause-logged c = λ is. record {
 }
 
 pub returns-clause-logged : goal.returns-clause-logged
-returns-clause-logged c = λ is. record {
-  strokes = logs_still c.args.pairs.now c.fail.new.pairs c.args.self.now c.fail.ensures.lays is.strokes;
+returns-clause-logged c = λ copies made is. record {
+  strokes = logs_still copies c.args.pairs.now c.fail.new.pairs c.args.self.now (driven_stay c.args.pairs.now c.fail.new.pairs c.fail.ensures.driven)
+      (keep_gives c.args.pairs.now c.fail.new.pairs c.in_ok-fail.ensures.gives) c.fail.ensures.lays is.strokes;
   calls = calls_still c.args.pairs.now c.fail.new.pairs c.args.self.now (driven_stay c.args.pairs.now c.fail.new.pairs c.fail.ensures.driven) c.fail.ensures.lays is.calls;
 }

@@ -82,9 +82,10 @@ pub returns-clause-ports : goal.returns-clause-ports
 returns-clause-ports c = λ is over. c.in_ok-moved.ensures.ports (c.either.ensures.other is) over
 
 pub returns-clause-logged : goal.returns-clause-logged
-returns-clause-logged c = λ is.
-    c.in_ok-moved.ensures.logged (record {
-      strokes = logs_served c.args.pairs.now c.push_events.new.pairs c.args.self.now c.push_events.ensures.clients is.strokes;
+returns-clause-logged c = λ copies made is.
+    c.in_ok-moved.ensures.logged copies made (record {
+      strokes = logs_served copies c.args.pairs.now c.push_events.new.pairs c.args.self.now (driven_stay c.args.pairs.now c.push_events.new.pairs c.push_events.ensures.driven)
+          c.push_events.ensures.clients is.strokes;
       calls = calls_served c.args.pairs.now c.push_events.new.pairs c.args.self.now (driven_stay c.args.pairs.now c.push_events.new.pairs c.push_events.ensures.driven)
           c.push_events.ensures.clients is.calls;
     })
