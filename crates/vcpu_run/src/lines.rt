@@ -422,66 +422,10 @@ impl Driver {
         ensures hears { StepHears result self.old.client self.new.client
             (C.state crq.old.end) (C.state crq.new.end) }
     {
-        match op_of(&line.verb) {
-            Some(op) => self.command(crq, own, &op, u64::from(line.number)),
-            None => self.step_other(crq, own, line, progress),
-        }
-    }
-
-    // One step of a line that sends no command.
-    fn step_other<C: CrqEnd, O: OwnerPort>(
-        &mut self,
-        crq: &mut Watched<C>,
-        own: &mut O,
-        line: &Line,
-        progress: &mut Progress,
-    ) -> Result<Step, NoMemory>
-        requires none { sends line.now.verb ≡ false }
-        requires verb { IsUnitVerb line.now.verb }
-        requires pages { MIN_PAGES ≤ (O.state own.old).place.size }
-        requires rows { FitRows (O.state own.old).place.size self.old.client }
-        requires slots { HoldsSlots self.old.client }
-        ensures told { StepsTold (O.state own.old).place.size line.now.verb
-            (seated self.old.client progress.old (C.state crq.old.end).registered)
-            (seated self.new.client progress.new (C.state crq.new.end).registered)
-            result }
-        ensures out { C.is_shared ≡ false → StepsOut line.now.verb
-            (seated self.old.client progress.old (C.state crq.old.end).registered)
-            (seated self.new.client progress.new (C.state crq.new.end).registered)
-            result }
-        ensures shows { StepShows
-            (seen_since C.is_shared (O.state own.new)
-            (C.state crq.old.end) (C.state crq.new.end))
-            (O.state own.old).place.unit line.now.number line.now.verb result }
-        ensures registered { C.is_shared ≡ false → StepsOpen line.now.verb progress.new
-            (IsHeldOff (link_seen (C.state crq.old.end)))
-            (C.state crq.new.end).registered result }
-        ensures works { Works (is_reset line.now.verb) C.is_shared O.is_shared
-            (Some line.now.number) (C.state crq.old.end) (C.state crq.new.end)
-            (O.state own.old) (O.state own.new) self.old self.new }
-        ensures region { RegionStepped O.is_shared line.now
-            (O.state own.old) (O.state own.new) result }
-        ensures puts { IfOk result (λ step. StepPuts line.now.verb step
-            (O.state own.old).values (O.state own.new).values) }
-        ensures reads { O.is_shared ≡ false → IfOk result (StepReads
-            (seen_by C.is_shared (O.state own.new) (C.state crq.new.end))
-            self.old.client line.now.verb) }
-        ensures inward { IfOk result (StepSends self.new.client.rows line.now.verb) }
-        ensures full { StepFull (IsFullBy C.is_shared (C.state crq.new.end)) result }
-        ensures shut { StepShut (MeetsShut C.is_shared self.old.client
-            (C.state crq.old.end) (C.state crq.new.end)) line.now.verb result }
-        ensures credit { StepsAgreed line.now.verb (taken_in progress.old)
-            (taken_in progress.new) self.old.client self.new.client result }
-        ensures takes { StepsTaken line.now.verb (taken_in progress.old)
-            (taken_in progress.new) self.old self.new result }
-        ensures frees { StepMakes (is_reset line.now.verb) progress.old progress.new
-            (C.state crq.old.end) (C.state crq.new.end) }
-        ensures gives { OnOk result (Gives self.old self.new
-            (C.state crq.old.end) (C.state crq.new.end)) }
-        ensures hears { StepHears result self.old.client self.new.client
-            (C.state crq.old.end) (C.state crq.new.end) }
-    {
         let mark = u64::from(line.number);
+        if let Some(op) = op_of(&line.verb) {
+            return self.command(crq, own, &op, mark);
+        }
         match &line.verb {
             Verb::Login => self.login(crq, own, mark),
             Verb::Reset => self.reset(crq, own, mark, progress),
