@@ -11,7 +11,7 @@ use Rattle.crq_ring.specs.declared.view.Role.TheVariants.{Sender, Receiver}
 use Rattle.crq_ring.specs.EndsKept.{RingSeat, IsEnd}
 use Rattle.crq_ring.specs.Kept.{Present}
 use Rattle.crq_ring.specs.RingRule.{InOrder}
-use Rattle.crq_ring.specs.RingSteps.{Seated, own_now, other_now, row_now, Keeps, probed, staged, sent, looked, read, cleared}
+use Rattle.crq_ring.specs.RingSteps.{Seated, own_now, other_now, seated_row, Keeps, probed, staged, sent, looked, read, cleared}
 use Rattle.crq_ring.specs.Sessions.{of_session}
 use Rattle.crq_ring.specs.Window.{words_of, IsFull}
 use Rattle.crq_ring.proofs.RingAllows.{Inside, Opened, probes, stages_low, sends_high, looks, reads_low, clears_high}
@@ -101,10 +101,10 @@ module _ (role : Role) (seat : RingSeat) (next session from : ℕ) (rows : List 
   }
 
   -- the end with one entry more
-  pub longer_end : (seat' : RingSeat) (e : Entry) (rows' : List PipeRow) (next' : ℕ) → seat'.table_id ≡ seat.table_id → Keeps seat.me seat'.me → seat'.me.0.own ≡ seat.me.0.own ++ row_now seat.me e ∷ []
+  pub longer_end : (seat' : RingSeat) (e : Entry) (rows' : List PipeRow) (next' : ℕ) → seat'.table_id ≡ seat.table_id → Keeps seat.me seat'.me → seat'.me.0.own ≡ seat.me.0.own ++ seated_row seat.me e ∷ []
       → rows' ≡ rows ++ record { session = session; entry = e } ∷ [] → next' ≡ (next + 1) % n → IsEnd role seat' next' session from rows'
   longer_end seat' e rows' next' table g own longer turned = let slots : seat'.me.0.slots ≡ seat.me.0.slots = g.slots in let xs : List Entry = own_now seat.me in let a : ℕ = seat.me.0.slots in
-      let pushed : own_now seat'.me ≡ xs ++ e ∷ [] = (λ i. of_session (g.session i) (own i)) ∙ of_session-push (row_now seat.me e) seat.me.0.own in
+      let pushed : own_now seat'.me ≡ xs ++ e ∷ [] = (λ i. of_session (g.session i) (own i)) ∙ of_session-push (seated_row seat.me e) seat.me.0.own in
       let long : length (own_now seat'.me) ≡ length xs + 1 = ap length pushed ∙ length-append xs (e ∷ []) in let round : next' ≡ (next + 1) % a = turned ∙ ap (λ z. (next + 1) % z) (sym slots_is) in
       let here : next' ≡ (length xs + 1) % a = round ∙ turns next (length xs) a end.next_is in record {
         role_is = g.role ∙ end.role_is;

@@ -14,7 +14,7 @@ use Rattle.crq_ring.specs.declared.view.Role.TheVariants.{Sender, Receiver}
 use Rattle.crq_ring.specs.Control.{IsEnded}
 use Rattle.vio_num.specs.Words.{Begins}
 use Rattle.crq_ring.specs.RingRule.{Moment, SenderKnows, ReceiverKnows, KnowsAs, Knows, InOrder}
-use Rattle.crq_ring.specs.RingSteps.{Seated, own_now, other_now, row_now, Keeps, probed, staged, sent, looked, read, cleared, heard_room, heard_front}
+use Rattle.crq_ring.specs.RingSteps.{Seated, own_now, other_now, seated_row, Keeps, probed, staged, sent, looked, read, cleared, heard_room, heard_front}
 use Rattle.crq_ring.specs.Sessions.{of_session}
 use Rattle.crq_ring.specs.Window.{high_at, low_at, entry_of, entry_at, IsFull, IsVacant, Window}
 use Rattle.crq_ring.proofs.Fronts.{blank, begins_self, begins_all, begins_on, begins_less, begins_of}
@@ -192,7 +192,7 @@ module _ (n slots id : ℕ) (me : Seated) where
       let m : ℕ = length (put_in r.now) in let t : ℕ = length (taken_in r.now) in let long : length (own_now me) ≡ m = ap length same in
       let known : length (other_now me) ≤ t = subst (λ (l : List Entry). length (other_now me) ≤ length l) (taken_is s r at sits) (known_less s r at sits) in
       let x : ℕ = m % n in let ws : List ℕ = set s.words (2 * x) high in let room : m < t + n = omega arith in
-      let w : RingView = record v { own = v.own ++ row_now me e ∷ []; low = get_or ws (low_at n (length (put_in b))) 0 } in
+      let w : RingView = record v { own = v.own ++ seated_row me e ∷ []; low = get_or ws (low_at n (length (put_in b))) 0 } in
       let kept = sender_moves n s r b (2 * x) high id me.1 w k.seat record {
         session = refl;
         is_open = refl;
@@ -296,7 +296,7 @@ module _ (n slots id : ℕ) (me : Seated) where
       let long : t ≡ m = ap length (sym (took_is s r at sits)) in let all : length ss ≡ length (put_in r.now) = ap length (put_is s r at sits) in
       let known : length (other_now me) ≤ length ss = begins_less (other_now me) ss front in let e' : Entry = entry_at (put_in r.now) t in let b : Moment = more_taken r.now e' in
       let there : entry_at (other_now me) m ≡ e' = sym (get_or-append (other_now me) front.0 blank m more) ∙ (ap (λ l. entry_at l m) (sym front.1) ∙ (λ i. entry_at (put_is s r at sits i) (sym long i))) in
-      let e : Entry = entry_at (other_now me) m in let w : RingView = record v { own = v.own ++ row_now me e ∷ [] } in let x : ℕ = t % n in
+      let e : Entry = entry_at (other_now me) m in let w : RingView = record v { own = v.own ++ seated_row me e ∷ [] } in let x : ℕ = t % n in
       let inside : x < n = mod-lt t r.words_show.some_slots in
       let kept = receiver_moves n s r b (2 * x) 0 id me.1 w k.seat record {
         sent = refl;

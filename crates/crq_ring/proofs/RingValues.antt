@@ -8,7 +8,7 @@ use Rattle.vio_num.specs.Queue.{LawfulDrop}
 use Rattle.crq_ring.specs.declared.view.RingView.{RingView}
 use Rattle.crq_ring.specs.Control.{IsEnded}
 use Rattle.vio_num.specs.Words.{Begins, WordRead, ReadsWord}
-use Rattle.crq_ring.specs.Ends.{SendValue, RecvValue, sent_now, known_now, taken_now, heard_now}
+use Rattle.crq_ring.specs.Ends.{SendValue, RecvValue, end_sent, known_now, end_taken, heard_now}
 use Rattle.crq_ring.specs.Ring.{EndPuts, EndFindsFull, KnowsTaken, KeepsSending, EndTakes, EndFindsNone, KnowsPut, KeepsReceiving, Learns, Knows}
 use Rattle.crq_ring.specs.RingCuts.{told_by}
 use Rattle.crq_ring.specs.RingSteps.{Seated, own_now, other_now, Keeps, KnowsEnded, Reads, Heard, Probed, Looked}
@@ -44,14 +44,14 @@ reads_word a b m m' word x y r = record {
 }
 
 module _ (v : SendValue) (m : Seated) (s : SendShows v m) where
-  pub sent_is : sent_now v ≡ own_now m
+  pub sent_is : end_sent v ≡ own_now m
   sent_is = λ i. of_session (s.session i) (s.sent i)
 
   pub known_is : known_now v ≡ other_now m
   known_is = λ i. of_session (s.session i) (s.known i)
 
 module _ (v : RecvValue) (m : Seated) (s : RecvShows v m) where
-  pub taken_is : taken_now v ≡ own_now m
+  pub taken_is : end_taken v ≡ own_now m
   taken_is = λ i. of_session (s.session i) (s.taken i)
 
   pub heard_is : heard_now v ≡ other_now m
@@ -78,7 +78,7 @@ module _ (old new : SendValue) (m m' : Seated) (was : SendShows old m) (is : Sen
       → new.drops ≡ recorded old.drops (record { session = old.session; number = number; held = held }) → Rose old.full new.full → EndFindsFull n old number held new
   found_full n number held told full slots some last same drops rose = let xs : List Entry = own_now m in
       let room : length xs ≡ length (other_now m') + m.0.slots = told.full full in let slots_are : m.0.slots ≡ n = slots in
-      let a : length (sent_now old) ≡ length xs = ap length (sent_is old m was) in let d : length (known_now new) ≡ length (other_now m') = ap length (known_is new m' is) in
+      let a : length (end_sent old) ≡ length xs = ap length (sent_is old m was) in let d : length (known_now new) ≡ length (other_now m') = ap length (known_is new m' is) in
       let knew : length (known_now old) ≤ length (known_now new) = begins_less (known_now old) (known_now new) (known_more told) in record {
         full_slot = omega arith;
         none_known = omega arith;
@@ -96,7 +96,7 @@ module _ (old new : SendValue) (m m' : Seated) (was : SendShows old m) (is : Sen
 
   pub put_done : (n number : ℕ) (entry : Entry) → PutSteps n m entry m' → number ≡ length (own_now m) → new.drops ≡ old.drops → new.full ≡ old.full → EndPuts n old number entry new
   put_done n number entry done last drops full = record {
-    empty_slot = let a : length (sent_now old) ≡ length (own_now m) = ap length (sent_is old m was) in let d : length (known_now new) ≡ length (other_now m') = ap length (known_is new m' is) in
+    empty_slot = let a : length (end_sent old) ≡ length (own_now m) = ap length (sent_is old m was) in let d : length (known_now new) ≡ length (other_now m') = ap length (known_is new m' is) in
         let l : length (own_now m) < length (other_now m') + n = done.empty_slot in omega arith;
     number_is = last ∙ ap length (sym (sent_is old m was));
     sent = is.sent ∙ (done.own ∙ (λ i. sym was.sent i ++ record { session = sym was.session i; entry = entry } ∷ []));
@@ -133,11 +133,11 @@ module _ (old new : RecvValue) (m m' : Seated) (was : RecvShows old m) (is : Rec
   }
 
   pub found_none : (number high : ℕ) → Looked m high m' → IsVacant high → number ≡ length (own_now m) → new.taken ≡ old.taken → Rose old.empty new.empty → EndFindsNone old number new
-  found_none number high told vacant last same rose = let all : heard_now new ≡ taken_now old = heard_is new m' is ∙ (told.vacant vacant ∙ sym (taken_is old m was)) in record {
+  found_none number high told vacant last same rose = let all : heard_now new ≡ end_taken old = heard_is new m' is ∙ (told.vacant vacant ∙ sym (taken_is old m was)) in record {
     number_is = last ∙ ap length (sym (taken_is old m was));
     all_taken = all;
-    none_heard = let less : length (heard_now old) ≤ length (heard_now new) = begins_less (heard_now old) (heard_now new) heard_more in let e : length (heard_now new) ≡ length (taken_now old) = ap length all in
-        let f : number ≡ length (taken_now old) = last ∙ ap length (sym (taken_is old m was)) in omega arith;
+    none_heard = let less : length (heard_now old) ≤ length (heard_now new) = begins_less (heard_now old) (heard_now new) heard_more in let e : length (heard_now new) ≡ length (end_taken old) = ap length all in
+        let f : number ≡ length (end_taken old) = last ∙ ap length (sym (taken_is old m was)) in omega arith;
     taken = same;
     empty = rose;
     shows = subst (λ z. z < 2 ^ 56) (sym (ap (λ (z : WordRead). z.word) is.last ∙ told.reads.word_is)) vacant;
@@ -160,7 +160,7 @@ pub learnt_front : (new : RecvValue) (m : Seated) (is : RecvShows new m) (note :
     → (old : RecvValue) (ring : TableId) → Learns old (record { ring = ring; sent = note.own; known = note.other }) new
 learnt_front new m is note sent known front old ring = let mine : Begins (of_session new.session note.own) (heard_now new) = subst (λ l. Begins (of_session new.session note.own) (of_session new.session l)) (sym is.heard) (begins_of new.session note.own m.0.other sent) in record {
   sent = subst (λ l. Begins note.own l) (sym is.heard) sent;
-  agrees = begins_either (of_session new.session note.own) (taken_now new) (heard_now new) mine (subst (λ (z : List Entry × List Entry). Begins z.0 z.1) (λ i. (sym (taken_is new m is) i, sym (heard_is new m is) i)) front);
+  agrees = begins_either (of_session new.session note.own) (end_taken new) (heard_now new) mine (subst (λ (z : List Entry × List Entry). Begins z.0 z.1) (λ i. (sym (taken_is new m is) i, sym (heard_is new m is) i)) front);
   sent_length = begins_less (of_session new.session note.own) (heard_now new) mine;
   known = subst (λ l. Begins note.other l) (sym is.taken) known;
 }
@@ -169,7 +169,7 @@ pub known_room : (new : SendValue) (m : Seated) (is : SendShows new m) (note : R
     → (old : SendValue) (ring : TableId) → Knows old (record { ring = ring; taken = note.own; heard = note.other }) new
 known_room new m is note taken heard front old ring = let mine : Begins (of_session new.session note.own) (known_now new) = subst (λ l. Begins (of_session new.session note.own) (of_session new.session l)) (sym is.known) (begins_of new.session note.own m.0.other taken) in record {
   taken = subst (λ l. Begins note.own l) (sym is.known) taken;
-  front = begins_on (of_session new.session note.own) (known_now new) (sent_now new) mine (subst (λ (z : List Entry × List Entry). Begins z.0 z.1) (λ i. (sym (known_is new m is) i, sym (sent_is new m is) i)) front);
+  front = begins_on (of_session new.session note.own) (known_now new) (end_sent new) mine (subst (λ (z : List Entry × List Entry). Begins z.0 z.1) (λ i. (sym (known_is new m is) i, sym (sent_is new m is) i)) front);
   taken_length = begins_less (of_session new.session note.own) (known_now new) mine;
   heard = subst (λ l. Begins note.other l) (sym is.sent) heard;
 }

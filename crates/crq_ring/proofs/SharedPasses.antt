@@ -9,7 +9,7 @@ use Rattle.vio_num.specs.Counts.{Rose}
 use Rattle.vio_num.specs.Queue.{LawfulDrop}
 use Rattle.crq_ring.specs.declared.shared.SharedPipe.{SharedPipe}
 use Rattle.vio_num.specs.Words.{Begins}
-use Rattle.crq_ring.specs.Ends.{sent_now, known_now, taken_now, heard_now}
+use Rattle.crq_ring.specs.Ends.{end_sent, known_now, end_taken, heard_now}
 use Rattle.crq_ring.specs.Port.{PortPlace, Puts, FindsFull, Takes, FindsNone}
 use Rattle.crq_ring.specs.Ring.{EndPuts, EndFindsFull, KeepsSending, EndTakes, EndFindsNone, KeepsReceiving}
 use Rattle.crq_ring.specs.Sessions.{of_session}
@@ -30,27 +30,27 @@ module _ (old told done new : SharedPipe) (a : TellsSender old told) (kept : Kee
   put_sessions : done.send.now.session ≡ old.recv.now.session
   put_sessions = kept.session ∙ (a.send.keeps.session ∙ old.together)
 
-  sent_before : sent_now told.send.now ≡ sent_now old.send.now
+  sent_before : end_sent told.send.now ≡ end_sent old.send.now
   sent_before = λ i. of_session (a.send.keeps.session i) (a.send.sent i)
 
-  sent_after : sent_now new.send.now ≡ sent_now done.send.now
-  sent_after = ap (λ v. sent_now v) b.send
+  sent_after : end_sent new.send.now ≡ end_sent done.send.now
+  sent_after = ap (λ v. end_sent v) b.send
 
   -- the sender knows all that was taken
-  known_all : length (known_now done.send.now) ≡ length (taken_now old.recv.now)
+  known_all : length (known_now done.send.now) ≡ length (end_taken old.recv.now)
   known_all = let q : ℕ = done.send.now.session in
-      let took : of_session q old.recv.now.taken ≡ taken_now old.recv.now = ap (λ k. of_session k old.recv.now.taken) put_sessions in
+      let took : of_session q old.recv.now.taken ≡ end_taken old.recv.now = ap (λ k. of_session k old.recv.now.taken) put_sessions in
       let at_most : length (known_now done.send.now) ≤ length (of_session q new.recv.now.taken) = begins_less (known_now done.send.now) (of_session q new.recv.now.taken) (begins_of q done.send.now.known new.recv.now.taken b.known) in
       let taken : new.recv.now.taken ≡ old.recv.now.taken = b.recv.taken ∙ ap (λ v. v.taken) (same ∙ a.recv) in
       let at_least : length (of_session q old.recv.now.taken) ≤ length (known_now done.send.now) =
       begins_less (of_session q old.recv.now.taken) (known_now done.send.now) (begins_of q old.recv.now.taken done.send.now.known (begins_on old.recv.now.taken told.send.now.known done.send.now.known a.taken kept.knows.known)) in
-      let e : length (of_session q old.recv.now.taken) ≡ length (taken_now old.recv.now) = ap length took in
+      let e : length (of_session q old.recv.now.taken) ≡ length (end_taken old.recv.now) = ap length took in
       let f : length (of_session q new.recv.now.taken) ≡ length (of_session q old.recv.now.taken) = ap (λ l. length (of_session q l)) taken in
       omega (arith, at_most, at_least, e, f)
 
   pub puts_through : (number : ℕ) (entry : Entry) → EndPuts told.ring.now.slots told.send.now number entry done.send.now → Puts (state_of old) number entry (state_of new)
   puts_through number entry put = record {
-    empty_slot = let l : length (sent_now told.send.now) < length (known_now done.send.now) + told.ring.now.slots = put.empty_slot in
+    empty_slot = let l : length (end_sent told.send.now) < length (known_now done.send.now) + told.ring.now.slots = put.empty_slot in
         omega (arith, l, known_all, put_slots, ap length sent_before);
     number_is = put.number_is ∙ ap length sent_before;
     sent = sent_after ∙ (put.sent_now ∙ ap (λ l. l ++ entry ∷ []) sent_before);
@@ -58,7 +58,7 @@ module _ (old told done new : SharedPipe) (a : TellsSender old told) (kept : Kee
 
   pub finds_full_through : (number held : ℕ) → EndFindsFull told.ring.now.slots told.send.now number held done.send.now → FindsFull (state_of old) number held (state_of new)
   finds_full_through number held full = record {
-    full_slot = let l : length (sent_now told.send.now) ≡ length (known_now done.send.now) + told.ring.now.slots = full.full_slot in
+    full_slot = let l : length (end_sent told.send.now) ≡ length (known_now done.send.now) + told.ring.now.slots = full.full_slot in
         omega (arith, l, known_all, put_slots, ap length sent_before);
     number_is = full.number_is ∙ ap length sent_before;
     lawful = subst (λ (z : List Entry × ℕ). LawfulDrop z.0 z.1 number held) (λ i. (sent_before i, put_slots i)) full.lawful;
@@ -71,11 +71,11 @@ module _ (old told done new : SharedPipe) (a : TellsReceiver old told) (kept : K
   poll_session : done.recv.now.session ≡ old.recv.now.session
   poll_session = kept.session ∙ a.recv.keeps.session
 
-  taken_before : taken_now told.recv.now ≡ taken_now old.recv.now
+  taken_before : end_taken told.recv.now ≡ end_taken old.recv.now
   taken_before = λ i. of_session (a.recv.keeps.session i) (a.recv.taken i)
 
-  taken_after : taken_now new.recv.now ≡ taken_now done.recv.now
-  taken_after = ap (λ v. taken_now v) b.recv
+  taken_after : end_taken new.recv.now ≡ end_taken done.recv.now
+  taken_after = ap (λ v. end_taken v) b.recv
 
   sent_same : new.send.now.sent ≡ old.send.now.sent
   sent_same = b.send.sent ∙ ap (λ v. v.sent) (same ∙ a.send)
@@ -83,32 +83,32 @@ module _ (old told done new : SharedPipe) (a : TellsReceiver old told) (kept : K
   sent_session : new.send.now.session ≡ old.send.now.session
   sent_session = b.send.keeps.session ∙ ap (λ v. v.session) (same ∙ a.send)
 
-  sent_still : sent_now new.send.now ≡ sent_now old.send.now
+  sent_still : end_sent new.send.now ≡ end_sent old.send.now
   sent_still = λ i. of_session (sent_session i) (sent_same i)
 
   -- what was taken is a front of what was put
-  took_front : Begins (taken_now done.recv.now) (sent_now old.send.now)
+  took_front : Begins (end_taken done.recv.now) (end_sent old.send.now)
   took_front = let q : ℕ = done.recv.now.session in let is : new.send.now.session ≡ q = sent_session ∙ (old.together ∙ sym poll_session) in
-      subst (λ l. Begins (taken_now done.recv.now) l) sent_still
-      (begins_on (taken_now done.recv.now) (known_now new.send.now) (sent_now new.send.now)
-      (subst (λ k. Begins (taken_now done.recv.now) (of_session k new.send.now.known)) (sym is) (begins_of q done.recv.now.taken new.send.now.known b.taken))
+      subst (λ l. Begins (end_taken done.recv.now) l) sent_still
+      (begins_on (end_taken done.recv.now) (known_now new.send.now) (end_sent new.send.now)
+      (subst (λ k. Begins (end_taken done.recv.now) (of_session k new.send.now.known)) (sym is) (begins_of q done.recv.now.taken new.send.now.known b.taken))
       b.send.keeps.knows.front)
 
   pub takes_through : (number : ℕ) (entry : Entry) → EndTakes told.recv.now number entry done.recv.now → Takes (state_of old) number entry (state_of new)
-  takes_through number entry took = let front : Begins (taken_now told.recv.now ++ entry ∷ []) (sent_now old.send.now) = subst (λ l. Begins l (sent_now old.send.now)) took.taken_now took_front in record {
+  takes_through number entry took = let front : Begins (end_taken told.recv.now ++ entry ∷ []) (end_sent old.send.now) = subst (λ l. Begins l (end_sent old.send.now)) took.taken_now took_front in record {
     number_is = took.number_is ∙ ap length taken_before;
-    there = ap (slice_get (sent_now old.send.now)) took.number_is ∙ there_at (taken_now told.recv.now) (sent_now old.send.now) entry front;
+    there = ap (slice_get (end_sent old.send.now)) took.number_is ∙ there_at (end_taken told.recv.now) (end_sent old.send.now) entry front;
     taken = taken_after ∙ (took.taken_now ∙ ap (λ l. l ++ entry ∷ []) taken_before);
   }
 
   pub finds_none_through : (number : ℕ) → EndFindsNone told.recv.now number done.recv.now → FindsNone (state_of old) number (state_of new)
-  finds_none_through number found = let still : taken_now done.recv.now ≡ taken_now old.recv.now = (λ i. of_session (kept.session i) (found.taken i)) ∙ taken_before in
-      let q : ℕ = done.recv.now.session in let all : heard_now done.recv.now ≡ taken_now old.recv.now = found.all_taken ∙ taken_before in
-      let put : Begins (sent_now old.send.now) (taken_now old.recv.now) =
+  finds_none_through number found = let still : end_taken done.recv.now ≡ end_taken old.recv.now = (λ i. of_session (kept.session i) (found.taken i)) ∙ taken_before in
+      let q : ℕ = done.recv.now.session in let all : heard_now done.recv.now ≡ end_taken old.recv.now = found.all_taken ∙ taken_before in
+      let put : Begins (end_sent old.send.now) (end_taken old.recv.now) =
       subst (λ (z : ℕ × List Entry). Begins (of_session z.0 old.send.now.sent) z.1) (λ i. ((poll_session ∙ sym old.together) i, all i))
       (begins_of q old.send.now.sent done.recv.now.heard (begins_on old.send.now.sent told.recv.now.heard done.recv.now.heard a.sent kept.knows.heard)) in record {
         number_is = found.number_is ∙ ap length taken_before;
-        all_taken = begins_both (sent_now old.send.now) (taken_now old.recv.now) put (subst (λ l. Begins l (sent_now old.send.now)) still took_front);
+        all_taken = begins_both (end_sent old.send.now) (end_taken old.recv.now) put (subst (λ l. Begins l (end_sent old.send.now)) still took_front);
         taken = taken_after ∙ still;
         empty = subst (λ (z : ℕ × ℕ). Rose z.0 z.1) (λ i. (a.recv.empty i, ap (λ v. v.empty) (sym b.recv) i)) found.empty;
       }

@@ -45,15 +45,15 @@ pub record RecvValue : Type 0 where
   pub last : WordRead
 
 -- what was put in the sender's session, and what it knows was taken of it
-abbrev pub sent_now : SendValue → List Entry
-sent_now send = of_session send.session send.sent
+abbrev pub end_sent : SendValue → List Entry
+end_sent send = of_session send.session send.sent
 
 abbrev pub known_now : SendValue → List Entry
 known_now send = of_session send.session send.known
 
 -- what was taken in the last session, and what the receiver knows was put in it
-abbrev pub taken_now : RecvValue → List Entry
-taken_now recv = of_session recv.session recv.taken
+abbrev pub end_taken : RecvValue → List Entry
+end_taken recv = of_session recv.session recv.taken
 
 abbrev pub heard_now : RecvValue → List Entry
 heard_now recv = of_session recv.session recv.heard

@@ -7,7 +7,7 @@ use Rattle.vio_num.specs.Queue.{Handed, LawfulDrop}
 use Rattle.crq_ring.specs.Control.{IsEnded}
 use Rattle.vio_num.specs.Words.{Begins, ReadsWord}
 use Rattle.crq_ring.specs.Ends.{RingValue, SendValue, RecvValue, FrontValue, RoomValue}
-use Rattle.crq_ring.specs.Ends.{sent_now, known_now, taken_now, heard_now}
+use Rattle.crq_ring.specs.Ends.{end_sent, known_now, end_taken, heard_now}
 use Rattle.crq_ring.specs.Pipe.{PipeValue}
 use Rattle.crq_ring.specs.RingRule.{first_session}
 use Rattle.crq_ring.specs.Sessions.{of_session, recorded, AreRising, Precedes}
@@ -32,20 +32,20 @@ pub record Opens (begun : Bool) (n : ℕ) (ring : RingValue) (send : SendValue) 
 
 -- The entry was put into its slot, which was empty, and has this number in its session.
 pub record EndPuts (n : ℕ) (old : SendValue) (number : ℕ) (entry : Entry) (new : SendValue) : Type 0 where
-  pub empty_slot : length (sent_now old) < length (known_now new) + n
-  pub number_is : number ≡ length (sent_now old)
+  pub empty_slot : length (end_sent old) < length (known_now new) + n
+  pub number_is : number ≡ length (end_sent old)
   pub sent : new.sent ≡ old.sent ++ record { session = old.session; entry = entry } ∷ []
-  pub sent_now : sent_now new ≡ sent_now old ++ entry ∷ []
+  pub sent_now : end_sent new ≡ end_sent old ++ entry ∷ []
   pub drops : new.drops ≡ old.drops
   pub full : new.full ≡ old.full
 
 -- The entry of this number found its slot full, with this high half in it, which was read; its number has a
 -- record. All that was taken when it looked is known.
 pub record EndFindsFull (n : ℕ) (old : SendValue) (number held : ℕ) (new : SendValue) : Type 0 where
-  pub full_slot : length (sent_now old) ≡ length (known_now new) + n
+  pub full_slot : length (end_sent old) ≡ length (known_now new) + n
   pub none_known : length (known_now old) + n ≤ number
-  pub number_is : number ≡ length (sent_now old)
-  pub lawful : LawfulDrop (sent_now old) n number held
+  pub number_is : number ≡ length (end_sent old)
+  pub lawful : LawfulDrop (end_sent old) n number held
   pub sent : new.sent ≡ old.sent
   pub drops : new.drops ≡ recorded old.drops (record { session = old.session; number = number; held = held })
   pub full : Rose old.full new.full
@@ -56,7 +56,7 @@ pub record EndFindsFull (n : ℕ) (old : SendValue) (number held : ℕ) (new : S
 pub record KnowsTaken (old new : SendValue) : Type 0 where
   pub ring : new.ring ≡ old.ring
   pub known : Begins old.known new.known
-  pub front : Begins (known_now new) (sent_now new)
+  pub front : Begins (known_now new) (end_sent new)
 
 -- It is in the same session besides.
 pub record KeepsSending (old new : SendValue) : Type 0 where
@@ -68,17 +68,17 @@ pub record KeepsSending (old new : SendValue) : Type 0 where
 
 -- The next entry was taken, which has this number in its session.
 pub record EndTakes (old : RecvValue) (number : ℕ) (entry : Entry) (new : RecvValue) : Type 0 where
-  pub number_is : number ≡ length (taken_now old)
+  pub number_is : number ≡ length (end_taken old)
   pub there : slice_get (heard_now new) number ≡ Some entry
   pub taken : new.taken ≡ old.taken ++ record { session = old.session; entry = entry } ∷ []
-  pub taken_now : taken_now new ≡ taken_now old ++ entry ∷ []
+  pub taken_now : end_taken new ≡ end_taken old ++ entry ∷ []
   pub empty : new.empty ≡ old.empty
 
 -- All that was put when it looked had been taken, as the word shows that was read: its first byte is 0. The
 -- next entry has this number.
 pub record EndFindsNone (old : RecvValue) (number : ℕ) (new : RecvValue) : Type 0 where
-  pub number_is : number ≡ length (taken_now old)
-  pub all_taken : heard_now new ≡ taken_now old
+  pub number_is : number ≡ length (end_taken old)
+  pub all_taken : heard_now new ≡ end_taken old
   pub none_heard : length (heard_now old) ≤ number
   pub taken : new.taken ≡ old.taken
   pub empty : Rose old.empty new.empty
@@ -90,7 +90,7 @@ pub record EndFindsNone (old : RecvValue) (number : ℕ) (new : RecvValue) : Typ
 pub record KnowsPut (old new : RecvValue) : Type 0 where
   pub ring : new.ring ≡ old.ring
   pub heard : Begins old.heard new.heard
-  pub front : Begins (taken_now new) (heard_now new)
+  pub front : Begins (end_taken new) (heard_now new)
   pub ended : (q : ℕ) → IsEnded old.session old.is_open q → of_session q new.heard ≡ of_session q old.heard
   pub empty : old.empty ≤ new.empty
 
@@ -117,7 +117,7 @@ pub record IsRoomOf (recv : RecvValue) (room : RoomValue) : Type 0 where
 -- a front or the other way round, and took all that it says was taken.
 pub record Learns (old : RecvValue) (front : FrontValue) (new : RecvValue) : Type 0 where
   pub sent : Begins front.sent new.heard
-  pub agrees : Begins (of_session new.session front.sent) (taken_now new) ⊎ Begins (taken_now new) (of_session new.session front.sent)
+  pub agrees : Begins (of_session new.session front.sent) (end_taken new) ⊎ Begins (end_taken new) (of_session new.session front.sent)
   pub sent_length : length (of_session new.session front.sent) ≤ length (heard_now new)
   pub known : Begins front.known new.taken
 
@@ -133,7 +133,7 @@ pub record OnlyHears (old new : RecvValue) : Type 0 where
 -- session, and put all that it says was put.
 pub record Knows (old : SendValue) (room : RoomValue) (new : SendValue) : Type 0 where
   pub taken : Begins room.taken new.known
-  pub front : Begins (of_session new.session room.taken) (sent_now new)
+  pub front : Begins (of_session new.session room.taken) (end_sent new)
   pub taken_length : length (of_session new.session room.taken) ≤ length (known_now new)
   pub heard : Begins room.heard new.sent
 

@@ -2,7 +2,7 @@
 use Rattle.std.specs.Prelude.{◌≡◌, ℕ, ◌+◌, ◌/◌, ◌%◌, ◌<◌, ◌≤◌, true, false, []}
 use Rattle.crq_ring.specs.Control.{control_word, ShowsClosed, ShowsInside}
 use Rattle.vio_num.specs.Words.{ReadsWord}
-use Rattle.crq_ring.specs.Ends.{SendValue, RecvValue, sent_now, taken_now, heard_now}
+use Rattle.crq_ring.specs.Ends.{SendValue, RecvValue, end_sent, end_taken, heard_now}
 use Rattle.crq_ring.specs.Ring.{KnowsTaken, KnowsPut, OnlySees}
 
 -- The next session is open, in which nothing was put and nothing taken.
@@ -11,7 +11,7 @@ pub record BeginsSession (old : RecvValue) (number : ℕ) (new : RecvValue) : Ty
   pub session : new.session ≡ number
   pub is_open : new.is_open ≡ true
   pub none_put : heard_now new ≡ []
-  pub none_taken : taken_now new ≡ []
+  pub none_taken : end_taken new ≡ []
   pub knows : KnowsPut old new
   pub taken : new.taken ≡ old.taken
   pub empty : new.empty ≡ old.empty
@@ -51,7 +51,7 @@ pub record SeesControl (old : SendValue) (word : ℕ) (new : SendValue) : Type 0
 pub record EntersSession (old new : SendValue) : Type 0 where
   pub inside : new.inside ≡ true
   pub session : old.session ≤ new.session
-  pub none_put : old.session < new.session → sent_now new ≡ []
+  pub none_put : old.session < new.session → end_sent new ≡ []
   pub knows : KnowsTaken old new
   pub sent : new.sent ≡ old.sent
   pub drops : new.drops ≡ old.drops

@@ -20,8 +20,8 @@ own_now m = of_session m.0.session m.0.own
 abbrev pub other_now : Seated → List Entry
 other_now m = of_session m.0.session m.0.other
 
-abbrev pub row_now : Seated → Entry → PipeRow
-row_now m entry = record { session = m.0.session; entry = entry }
+abbrev pub seated_row : Seated → Entry → PipeRow
+seated_row m entry = record { session = m.0.session; entry = entry }
 
 -- The seat has the same role, in the same session.
 pub record Keeps (m m' : Seated) : Type 0 where
@@ -69,7 +69,7 @@ pub record Staged (m : Seated) (low : ℕ) (m' : Seated) : Type 0 where
 -- The sender's store of the high half, which puts the entry.
 pub record Sent (m : Seated) (high : ℕ) (m' : Seated) : Type 0 where
   pub keeps : Keeps m m'
-  pub own : m'.0.own ≡ m.0.own ++ row_now m (entry_of high m.0.low) ∷ []
+  pub own : m'.0.own ≡ m.0.own ++ seated_row m (entry_of high m.0.low) ∷ []
   pub other : m'.0.other ≡ m.0.other
   pub reads : ReadsNone m m'
 
@@ -94,7 +94,7 @@ pub record Read (m : Seated) (low : ℕ) (m' : Seated) : Type 0 where
 -- The receiver's store of 0 in the high half, which takes the entry.
 pub record Cleared (m m' : Seated) : Type 0 where
   pub keeps : Keeps m m'
-  pub own : m'.0.own ≡ m.0.own ++ row_now m (entry_at (other_now m) (length (own_now m))) ∷ []
+  pub own : m'.0.own ≡ m.0.own ++ seated_row m (entry_at (other_now m) (length (own_now m))) ∷ []
   pub other : m'.0.other ≡ m.0.other
   pub reads : ReadsNone m m'
 

@@ -4,7 +4,7 @@ use Rattle.std.specs.Borrow.{GName}
 use Rattle.atomic_table.specs.Seated.{TableId}
 use Rattle.crq_ring.specs.declared.shared.SharedPipe.{SharedPipe}
 use Rattle.vio_num.specs.Words.{Begins}
-use Rattle.crq_ring.specs.Ends.{sent_now, taken_now}
+use Rattle.crq_ring.specs.Ends.{end_sent, end_taken}
 use Rattle.crq_ring.specs.Port.{PortPlace, PortState}
 use Rattle.crq_ring.specs.Ring.{OnlyKnows, OnlyHears}
 
@@ -23,8 +23,8 @@ abbrev pub state_of : SharedPipe → PortState
 state_of pipe = record {
   place = place_of pipe;
   ready = true;
-  sent = sent_now pipe.send.now;
-  taken = taken_now pipe.recv.now;
+  sent = end_sent pipe.send.now;
+  taken = end_taken pipe.recv.now;
   counts = record { full = pipe.send.now.full; empty = pipe.recv.now.empty };
   spare_puts = pipe.send.now.spare;
   spare_polls = pipe.recv.now.spare;

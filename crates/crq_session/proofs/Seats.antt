@@ -2,7 +2,7 @@
 use Rattle.std.proofs.Common.{◌≡◌, ℕ, ◌+◌, ◌≤◌, true, false, Option, None, sym, refl, ap, ◌∙◌, subst, arith, true≢false}
 use Rattle.std.specs.Borrow.{GName}
 use Rattle.vio_num.specs.declared.entry.Entry.{Entry}
-use Rattle.crq_ring.specs.Ends.{taken_now}
+use Rattle.crq_ring.specs.Ends.{end_taken}
 use Rattle.crq_ring.specs.Later.{IsLater}
 use Rattle.crq_ring.specs.RingSessions.{BeginsSession, EndsSession}
 use Rattle.crq_ring.proofs.SessionLaws.{later_begun}
@@ -12,7 +12,7 @@ use Rattle.crq_session.specs.Answered.{Puts, Loses, FindsFull, FindsClosed, Send
 use Rattle.crq_session.specs.EndState.{EndPlace, EndState, OnlySends, OnlyPushes, OnlyRegisters}
 use Rattle.crq_session.specs.LinkState.{place_at}
 use Rattle.crq_session.specs.SeatCalls.{SeesWord, SendRead}
-use Rattle.crq_session.specs.SeatState.{end_at, spare_of, KeepsSeat, SpendsSeat}
+use Rattle.crq_session.specs.SeatState.{end_at, seat_spare_of, KeepsSeat, SpendsSeat}
 use Rattle.crq_session.proofs.Events.{later, settles_on}
 
 -- the place of an end stays where its side does
@@ -63,7 +63,7 @@ module _ (x y : EndState) (k k' : Option Entry) where
 
 -- the end once its own queue was closed
 pub closed_end : (place : EndPlace) (old mid : LinkSeat) → EndsSession old.recv mid.recv → mid.send ≡ old.send → mid.kept ≡ old.kept → mid.closed ≡ old.closed → mid.in_use ≡ old.in_use
-    → end_at place mid ≡ later (end_at place old) false (spare_of mid)
+    → end_at place mid ≡ later (end_at place old) false (seat_spare_of mid)
 closed_end place old mid e send kept closed in_use = λ i. record {
   place = place;
   last_session = e.session i;
@@ -73,7 +73,7 @@ closed_end place old mid e send kept closed in_use = λ i. record {
   drops = (send i).drops;
   taken = e.taken i;
   counts = record { partner_session = (send i).session; full = (send i).full; empty = e.empty i; closed = closed i; in_use = in_use i };
-  spare = spare_of mid;
+  spare = seat_spare_of mid;
 }
 
 -- A registration: the kept event was pushed, the next session began, the partner's control word was read.
@@ -96,7 +96,7 @@ module _ (place : EndPlace) (old pushed begun new : LinkSeat) (number : ℕ) (re
     unregistered = unregistered;
     registered = ap (λ v. v.is_open) w.recv ∙ b.is_open;
     session = ap (λ v. v.session) w.recv ∙ (b.session ∙ (b.number_is ∙ ap (λ v. v.session + 1) recv));
-    none_taken = ap taken_now w.recv ∙ b.none_taken;
+    none_taken = ap end_taken w.recv ∙ b.none_taken;
     none_received = λ e. absurd (true≢false e);
     kept = w.kept ∙ (kept ∙ none);
     settles = settles_on true old.kept (end_at place old) (end_at place pushed) (end_at place new) sends_same drops_same session_same (omega (arith, w.closed, closed)) settles;

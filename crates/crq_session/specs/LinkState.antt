@@ -29,12 +29,12 @@ place_at lender link first = shared_place (lenders_of lender link) first (ring_o
 abbrev pub place_of : SharedEnd → EndPlace
 place_of end = place_at end.seat.ghost_name end.link.now end.seat.now.first
 
-abbrev pub state_of : SharedEnd → EndState
-state_of end = end_at (place_of end) end.seat.now
+abbrev pub shared_state_of : SharedEnd → EndState
+shared_state_of end = end_at (place_of end) end.seat.now
 
 -- what the receiver of the seat's own queue knows was put into it
-abbrev pub heard_of : SharedEnd → List PipeRow
-heard_of end = end.seat.now.recv.heard
+abbrev pub shared_heard_of : SharedEnd → List PipeRow
+shared_heard_of end = end.seat.now.recv.heard
 
 -- A link whose queues have these numbers of slots, before their first sessions, and its seats.
 pub record OpensLink (opened : OpenedLink) (slots_a slots_b : ℕ) : Type 0 where

@@ -27,7 +27,7 @@ use Rattle.crq_session.specs.Answered.{HoldsUp, Frees, FindsInUse, Pushes, PutsN
 use Rattle.crq_session.specs.Control.{fits_queue}
 use Rattle.crq_session.specs.EndState.{OnlyReserves, OnlyRegisters, OnlyFrees, OnlySends, OnlyTakes, OnlyPushes}
 use Rattle.crq_session.specs.Side.{IsKeptBy, OnNotKept}
-use Rattle.crq_session.specs.SeatState.{At, Anywhere, KeepsSeat, SpendsSeat}
+use Rattle.crq_session.specs.SeatState.{AtSeat, Anywhere, KeepsSeat, SpendsSeat}
 
 -- where the entry was put: P of its number
 abbrev pub IfPut : Passed → (ℕ → Type 0) → Type 0
@@ -53,13 +53,13 @@ RecvRead old new word = ReadsWord old.recv.last new.recv.last word
 
 -- An entry was passed to the partner.
 pub record IsPass (partner : RingValue) (old : LinkSeat) (entry : Entry) (answer : Passed) (new : LinkSeat) : Type 0 where
-  pub put : IfPut answer (λ number. At (λ x y. Sends true x entry y number) partner.slots old new)
-  pub closed : IfShut answer (λ word. At (λ x y. TurnsBack true x y word) partner.slots old new)
-  pub full : IfFull answer (λ number held. At (λ x y. FindsFull true x y number held) partner.slots old new)
+  pub put : IfPut answer (λ number. AtSeat (λ x y. Sends true x entry y number) partner.slots old new)
+  pub closed : IfShut answer (λ word. AtSeat (λ x y. TurnsBack true x y word) partner.slots old new)
+  pub full : IfFull answer (λ number held. AtSeat (λ x y. FindsFull true x y number held) partner.slots old new)
   pub closed_read : IfShut answer (SendRead old new)
   pub full_read : IfFull answer (λ number held. SendRead old new held)
   pub reads : old.send.last.count ≤ new.send.last.count
-  pub rest : At (OnlySends true) partner.slots old new
+  pub rest : AtSeat (OnlySends true) partner.slots old new
   pub recv : new.recv ≡ old.recv
   pub kept : new.kept ≡ old.kept
   pub room : SpendsSeat old new
@@ -69,14 +69,14 @@ pub record IsPass (partner : RingValue) (old : LinkSeat) (entry : Entry) (answer
 pub record IsSeatSend (partner : RingValue) (old : LinkSeat) (entry : Entry) (answer : SendAnswer) (new : LinkSeat) : Type 0 where
   pub parameter : (answer ≡ sending.Parameter) ↔ (first_byte entry < 0x80)
   pub not_registered : (answer ≡ sending.NotRegistered) ↔ ((0x80 ≤ first_byte entry) × (old.recv.is_open ≡ false))
-  pub may : At (λ x y. OnReached answer (MaySend x entry)) partner.slots old new
-  pub success : At (λ x y. IfSent answer (Sends true x entry y)) partner.slots old new
-  pub closed : At (λ x y. IfClosed answer (TurnsBack true x y)) partner.slots old new
-  pub dropped : At (λ x y. IfDropped answer (FindsFull true x y)) partner.slots old new
+  pub may : AtSeat (λ x y. OnReached answer (MaySend x entry)) partner.slots old new
+  pub success : AtSeat (λ x y. IfSent answer (Sends true x entry y)) partner.slots old new
+  pub closed : AtSeat (λ x y. IfClosed answer (TurnsBack true x y)) partner.slots old new
+  pub dropped : AtSeat (λ x y. IfDropped answer (FindsFull true x y)) partner.slots old new
   pub closed_read : IfClosed answer (SendRead old new)
   pub dropped_read : IfDropped answer (λ number held. SendRead old new held)
-  pub refused : At (λ x y. OnNotSent answer (OnlyReserves x y)) partner.slots old new
-  pub rest : At (OnlySends true) partner.slots old new
+  pub refused : AtSeat (λ x y. OnNotSent answer (OnlyReserves x y)) partner.slots old new
+  pub rest : AtSeat (OnlySends true) partner.slots old new
   pub room : SpendsSeat old new
   pub keeps : KeepsSeat old new
 
@@ -93,13 +93,13 @@ pub record IsSeatPoll (old : LinkSeat) (answer : PollAnswer) (new : LinkSeat) : 
 
 -- An event of a side that is not registered was put, is kept, or is lost.
 pub record IsSeatEvent (partner : RingValue) (old : LinkSeat) (event : Entry) (answer : EventAnswer) (new : LinkSeat) : Type 0 where
-  pub nothing : At (λ x y. OnNothing answer (Loses true x y)) partner.slots old new
-  pub put : At (λ x y. OnPut answer (Puts true x event y)) partner.slots old new
-  pub still : At (λ x y. IfKept answer (FindsFull true x y)) partner.slots old new
+  pub nothing : AtSeat (λ x y. OnNothing answer (Loses true x y)) partner.slots old new
+  pub put : AtSeat (λ x y. OnPut answer (Puts true x event y)) partner.slots old new
+  pub still : AtSeat (λ x y. IfKept answer (FindsFull true x y)) partner.slots old new
   pub still_read : IfKept answer (λ number held. SendRead old new held)
   pub reads : old.send.last.count ≤ new.send.last.count
   pub kept : IsKeptBy answer event new.kept
-  pub rest : At (OnlyPushes true) partner.slots old new
+  pub rest : AtSeat (OnlyPushes true) partner.slots old new
   pub recv : new.recv ≡ old.recv
   pub room : SpendsSeat old new
   pub keeps : KeepsSeat old new
@@ -115,14 +115,14 @@ pub record SeesWord (old new : LinkSeat) : Type 0 where
 
 -- The kept event was pushed.
 pub record IsSeatPush (partner : RingValue) (old : LinkSeat) (answer : EventAnswer) (new : LinkSeat) : Type 0 where
-  pub nothing : At (λ x y. OnNothing answer (PutsNone true x y)) partner.slots old new
-  pub put : At (λ x y. OnPut answer (Pushes true x y)) partner.slots old new
-  pub still : At (λ x y. IfKept answer (StillKept true x y)) partner.slots old new
+  pub nothing : AtSeat (λ x y. OnNothing answer (PutsNone true x y)) partner.slots old new
+  pub put : AtSeat (λ x y. OnPut answer (Pushes true x y)) partner.slots old new
+  pub still : AtSeat (λ x y. IfKept answer (StillKept true x y)) partner.slots old new
   pub still_read : IfKept answer (λ number held. SendRead old new held)
   pub reads : old.send.last.count ≤ new.send.last.count
-  pub settles : At (λ x y. OnNotKept answer (Settles true x.kept x y)) partner.slots old new
+  pub settles : AtSeat (λ x y. OnNotKept answer (Settles true x.kept x y)) partner.slots old new
   pub none : OnNotKept answer (new.kept ≡ None)
-  pub rest : At (OnlyPushes true) partner.slots old new
+  pub rest : AtSeat (OnlyPushes true) partner.slots old new
   pub recv : new.recv ≡ old.recv
   pub room : SpendsSeat old new
   pub keeps : KeepsSeat old new
@@ -131,13 +131,13 @@ pub record IsSeatPush (partner : RingValue) (old : LinkSeat) (answer : EventAnsw
 pub record IsSeatRegistration (own partner : RingValue) (old : LinkSeat) (ioba bytes : ℕ) (answer : RegAnswer) (new : LinkSeat) : Type 0 where
   pub parameter : (answer ≡ reg.Parameter) ↔ (fits_queue own.slots ioba bytes ≡ false)
   pub resource : (answer ≡ reg.Resource) ↔ ((fits_queue own.slots ioba bytes ≡ true) × (old.recv.is_open ≡ true))
-  pub opened : At (λ x y. OnOpened answer (Opens true x y)) partner.slots old new
-  pub closed : At (λ x y. IfAlone answer (FindsClosed true x y)) partner.slots old new
+  pub opened : AtSeat (λ x y. OnOpened answer (Opens true x y)) partner.slots old new
+  pub closed : AtSeat (λ x y. IfAlone answer (FindsClosed true x y)) partner.slots old new
   pub closed_read : IfAlone answer (SendRead old new)
-  pub busy : At (λ x y. IfHeldUp answer (HoldsUp true x y)) partner.slots old new
+  pub busy : AtSeat (λ x y. IfHeldUp answer (HoldsUp true x y)) partner.slots old new
   pub busy_read : IfHeldUp answer (λ number held. SendRead old new held)
-  pub refused : At (λ x y. OnNotRegistered answer (OnlyReserves x y)) partner.slots old new
-  pub rest : At (OnlyRegisters true) partner.slots old new
+  pub refused : AtSeat (λ x y. OnNotRegistered answer (OnlyReserves x y)) partner.slots old new
+  pub rest : AtSeat (OnlyRegisters true) partner.slots old new
   pub room : SpendsSeat old new
   pub keeps : KeepsSeat old new
 
@@ -145,11 +145,11 @@ pub record IsSeatRegistration (own partner : RingValue) (old : LinkSeat) (ioba b
 -- in it any more.
 pub record IsSeatFree (partner : RingValue) (old : LinkSeat) (event : Entry) (answer : FreeAnswer) (new : LinkSeat) : Type 0 where
   pub parameter : (answer ≡ freeing.Parameter) ↔ (old.recv.is_open ≡ false)
-  pub success : At (λ x y. OnFreed answer (Frees true x event y)) partner.slots old new
+  pub success : AtSeat (λ x y. OnFreed answer (Frees true x event y)) partner.slots old new
   pub ended : OnFreed answer (EndsSession old.recv new.recv)
-  pub busy : At (λ x y. IfInUse answer (FindsInUse true x y)) partner.slots old new
+  pub busy : AtSeat (λ x y. IfInUse answer (FindsInUse true x y)) partner.slots old new
   pub busy_read : IfInUse answer (RecvRead old new)
-  pub refused : At (λ x y. OnNotFreed answer (OnlyReserves x y)) partner.slots old new
-  pub rest : At (OnlyFrees true) partner.slots old new
+  pub refused : AtSeat (λ x y. OnNotFreed answer (OnlyReserves x y)) partner.slots old new
+  pub rest : AtSeat (OnlyFrees true) partner.slots old new
   pub room : SpendsSeat old new
   pub keeps : KeepsSeat old new

@@ -21,8 +21,8 @@ shared_place lenders first own_slots partner_slots = record {
 }
 
 -- the calls for which room is reserved, of whatever kind they are
-abbrev pub spare_of : LinkSeat → ℕ
-spare_of seat = min seat.send.spare (min seat.recv.spare seat.recv.renewals)
+abbrev pub seat_spare_of : LinkSeat → ℕ
+seat_spare_of seat = min seat.send.spare (min seat.recv.spare seat.recv.renewals)
 
 -- the end that a seat is, in its place
 abbrev pub end_at : EndPlace → LinkSeat → EndState
@@ -41,7 +41,7 @@ end_at place seat = record {
     closed = seat.closed;
     in_use = seat.in_use;
   };
-  spare = spare_of seat;
+  spare = seat_spare_of seat;
 }
 
 -- A seat that made no call.
@@ -55,8 +55,8 @@ pub record IsNewSeat (seat : LinkSeat) (first : Bool) : Type 0 where
 abbrev pub Anywhere : (EndState → EndState → Type 0) → LinkSeat → LinkSeat → Type 0
 Anywhere P old new = (place : EndPlace) → P (end_at place old) (end_at place new)
 
-abbrev pub At : (EndState → EndState → Type 0) → ℕ → LinkSeat → LinkSeat → Type 0
-At P n old new = (place : EndPlace) → place.partner_slots ≡ n → P (end_at place old) (end_at place new)
+abbrev pub AtSeat : (EndState → EndState → Type 0) → ℕ → LinkSeat → LinkSeat → Type 0
+AtSeat P n old new = (place : EndPlace) → place.partner_slots ≡ n → P (end_at place old) (end_at place new)
 
 -- What every call of a seat keeps: its rings, that it is outside the partner's queue between calls, and that
 -- nothing is put in a session of the own queue that has ended.

@@ -39,7 +39,7 @@ impl LinkSeat {
     ghost use Rattle.crq_ring.specs.Ends.{MayEnter, MayPoll};
     ghost use Rattle.crq_ring.specs.Ring.{IsLawfulSend, IsLawfulRecv};
     ghost use Rattle.crq_session.specs.EndState.{OnlyReserves};
-    ghost use Rattle.crq_session.specs.SeatState.{Anywhere, IsNewSeat, KeepsSeat, spare_of};
+    ghost use Rattle.crq_session.specs.SeatState.{Anywhere, IsNewSeat, KeepsSeat, seat_spare_of};
     ghost use Rattle.crq_session.specs.SeatCalls.{IsPass, IsSeatSend, IsSeatPoll, IsSeatEvent, IsSeatPush};
     ghost use Rattle.crq_session.specs.SeatCalls.{SendRead, SeesWord};
     ghost use Rattle.crq_session.specs.Answered.{FindsClosed};
@@ -75,8 +75,8 @@ impl LinkSeat {
     /// Makes room for this many calls of each kind.
     pub(crate) fn reserve(&mut self, n: u32) -> Result<(), NoMemory>
         requires outside { self.old.send.inside ≡ false }
-        ensures room { OnOk result (n ≤ spare_of self.new) }
-        ensures spare { spare_of self.old ≤ spare_of self.new }
+        ensures room { OnOk result (n ≤ seat_spare_of self.new) }
+        ensures spare { seat_spare_of self.old ≤ seat_spare_of self.new }
         ensures rest { Anywhere OnlyReserves self.old self.new }
         ensures keeps { KeepsSeat self.old self.new }
     {

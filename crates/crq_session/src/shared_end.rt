@@ -18,13 +18,13 @@ pub struct SharedEnd<'a> {
 }
 
 impl CrqEnd for SharedEnd<'_> {
-    ghost use Rattle.crq_session.specs.LinkState.{state_of, heard_of};
+    ghost use Rattle.crq_session.specs.LinkState.{shared_state_of, shared_heard_of};
 
     ghost is_shared = { true };
 
-    ghost state = { state_of };
+    ghost state = { shared_state_of };
 
-    ghost heard = { heard_of };
+    ghost heard = { shared_heard_of };
 
     fn slots(&self) -> u32 {
         self.link.queue(self.seat.first).slots()

@@ -51,9 +51,9 @@ IfUngranted (sent.Ungranted post fault) P = P post fault
 IfUngranted _ P = Unit {0}
 
 -- P of the page and the word that were found in use
-abbrev pub IfInUse : Deliver → (ℕ → ℕ → Type 0) → Type 0
-IfInUse (sent.InUse page word) P = P page word
-IfInUse _ P = Unit {0}
+abbrev pub IfSentInUse : Deliver → (ℕ → ℕ → Type 0) → Type 0
+IfSentInUse (sent.InUse page word) P = P page word
+IfSentInUse _ P = Unit {0}
 
 -- an answer of the plain form: no word shows its turn taken, and a closed one has no control word
 abbrev pub IsPlain : Deliver → Type 0

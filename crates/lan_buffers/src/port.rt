@@ -2,7 +2,7 @@
 // holds of each session.
 ghost use Rattle.std.specs.Prelude.{◌≡◌, ◌↔◌, ◌+◌, ◌⊎◌, ◌≤◌, ◌<◌, [], ◌∷◌, ◌++◌, ℕ, All, Some, None, true, false, IsTrue, IfSome, IfNone, OnOk, OnErr, IfOk, length, slice_get, drop, vec_len, vec_capacity};
 ghost use Rattle.vio_num.specs.declared.names.UnitId.{UnitId};
-ghost use Rattle.lan_buffers.specs.Answers.{IfPosted, IfNoPlace, OnNotPosted, IfFrame, IfBlank, IfNothing, IfDone, IfUngranted, IfInUse, IsPlain, OnDropped, IsTried, OnFound, OnNothing, LeavesWindow};
+ghost use Rattle.lan_buffers.specs.Answers.{IfPosted, IfNoPlace, OnNotPosted, IfFrame, IfBlank, IfNothing, IfDone, IfUngranted, IfSentInUse, IsPlain, OnDropped, IsTried, OnFound, OnNothing, LeavesWindow};
 ghost use Rattle.lan_buffers.specs.Buffer.{IsBuffer, buffer_len};
 ghost use Rattle.lan_buffers.specs.Calls.{IsOpen, closed_port, CountsSession, IsFull, IsSmallest, IsTold, TakesBlank, drops_now, pool, BeginsSession, AcceptsTo, HasNoPlace, Posts, Reads, ReadsFrame, ReadsBlank, ReadsNothing, FindsBuffer, FindsNoSize, FindsNoBuffer, Delivers, OnlyDelivers, Drops, GivesBlank, FindsPageInUse, frame_address};
 ghost use Rattle.lan_buffers.specs.Kept.{Takes, waits};
@@ -306,7 +306,7 @@ impl PlainPort {
             (G.state window.old) (G.state window.new)) }
         ensures ungranted { IfUngranted result (GivesBlank self.old name (length frame.now) self.new
             (G.state window.old) (G.state window.new)) }
-        ensures in_use { IfInUse result (λ page word. FindsPageInUse self.old (length frame.now)
+        ensures in_use { IfSentInUse result (λ page word. FindsPageInUse self.old (length frame.now)
             G.is_shared (G.state window.old) (G.state window.new) page
             (G.found window.new page word)) }
         ensures dropped { OnDropped result (Drops self.old self.new) }
@@ -370,7 +370,7 @@ impl PlainPort {
             (G.state window.old) (G.state window.new)) }
         ensures ungranted { IfUngranted result (GivesBlank self.old name (length frame.now) self.new
             (G.state window.old) (G.state window.new)) }
-        ensures in_use { IfInUse result (λ page word. FindsPageInUse self.old (length frame.now)
+        ensures in_use { IfSentInUse result (λ page word. FindsPageInUse self.old (length frame.now)
             G.is_shared (G.state window.old) (G.state window.new) page
             (G.found window.new page word)) }
         ensures nothing { OnNothing result (self.new ≡ self.old) }

@@ -8,7 +8,7 @@ use Rattle.tce_window.specs.declared.answers.HoldFault.{HoldFault}
 use Rattle.tce_window.specs.PortState.{PortPlace, WindowFacts, none_beside, port_at}
 use Rattle.lan_buffers.specs.declared.answers.Deliver.{Deliver}
 use Rattle.lan_buffers.specs.declared.answers.Deliver.TheVariants as sent
-use Rattle.lan_buffers.specs.Answers.{IfDone, IfUngranted, IfInUse, IsPlain, LeavesWindow, OnDropped, OnFound, OnNotDone, OnNothing}
+use Rattle.lan_buffers.specs.Answers.{IfDone, IfUngranted, IfSentInUse, IsPlain, LeavesWindow, OnDropped, OnFound, OnNotDone, OnNothing}
 use Rattle.lan_buffers.specs.Calls.{Delivers, Drops, FindsBuffer, FindsNoBuffer, FindsNoSize, FindsPageInUse, GivesBlank}
 use Rattle.lan_buffers.specs.Port.{PortValue}
 use Rattle.lan_switch.specs.Map.{KeepsOthers, lent_window, others_than}
@@ -37,7 +37,7 @@ ungranted_weaker (sent.InUse page word) P Q f h = tt
 ungranted_weaker (sent.Closed control) P Q f h = tt
 ungranted_weaker sent.NoMemory P Q f h = tt
 
-pub in_use_weaker : (answer : Deliver) (P Q : ℕ → ℕ → Type 0) → ((page word : ℕ) → P page word → Q page word) → IfInUse answer P → IfInUse answer Q
+pub in_use_weaker : (answer : Deliver) (P Q : ℕ → ℕ → Type 0) → ((page word : ℕ) → P page word → Q page word) → IfSentInUse answer P → IfSentInUse answer Q
 in_use_weaker (sent.Done post) P Q f h = tt
 in_use_weaker (sent.Ungranted post fault) P Q f h = tt
 in_use_weaker sent.NoSize P Q f h = tt
@@ -124,7 +124,7 @@ pub offered_alone : (lender lender' : GName) (facts facts' : UnitId → WindowFa
     → OnFound answer (FindsBuffer old (length frame))
     → IfDone answer (Delivers old name frame new is_shared (lent_window lender facts unit) (lent_window lender' facts' unit'))
     → IfUngranted answer (GivesBlank old name (length frame) new (lent_window lender facts unit) (lent_window lender' facts' unit'))
-    → IfInUse answer (λ page word. FindsPageInUse old (length frame) is_shared (lent_window lender facts unit) (lent_window lender' facts' unit') page (Found page word))
+    → IfSentInUse answer (λ page word. FindsPageInUse old (length frame) is_shared (lent_window lender facts unit) (lent_window lender' facts' unit') page (Found page word))
     → OnDropped answer (Drops old new) → OnNothing answer (new ≡ old)
     → LeavesWindow is_shared answer (lent_window lender facts unit) (lent_window lender' facts' unit')
     → IsOffered name frame is_shared (port_at (facts unit)) (port_at (facts' unit)) Found' old new answer
@@ -143,7 +143,7 @@ offered_alone lender lender' facts facts' unit unit' name frame is_shared old ne
   in_use = in_use_weaker answer
       (λ page word. FindsPageInUse old (length frame) is_shared (lent_window lender facts unit) (lent_window lender' facts' unit) page (Found page word)) _
       (λ page word. in_use_alone old (length frame) is_shared lender lender' facts facts' unit page (Found page word) (Found' page word) (f page word))
-      (subst (λ u. IfInUse answer (λ page word. FindsPageInUse old (length frame) is_shared (lent_window lender facts unit) (lent_window lender' facts' u) page (Found page word))) e in_use);
+      (subst (λ u. IfSentInUse answer (λ page word. FindsPageInUse old (length frame) is_shared (lent_window lender facts unit) (lent_window lender' facts' u) page (Found page word))) e in_use);
   dropped = dropped;
   nothing = nothing;
   window_is = window_alone is_shared answer lender lender' facts facts' unit

@@ -14,7 +14,7 @@ use Rattle.tce_window.specs.PortState.{PortState, WindowFacts, port_at}
 use Rattle.lan_frame.specs.Station.{IsGroup, destination_of}
 use Rattle.lan_buffers.specs.declared.answers.Deliver.{Deliver}
 use Rattle.lan_buffers.specs.declared.answers.Deliver.TheVariants as sent
-use Rattle.lan_buffers.specs.Answers.{IfDone, IfUngranted, IfInUse, IsPlain, OnDropped, OnFound, OnNothing, LeavesWindow}
+use Rattle.lan_buffers.specs.Answers.{IfDone, IfUngranted, IfSentInUse, IsPlain, OnDropped, OnFound, OnNothing, LeavesWindow}
 use Rattle.lan_buffers.specs.Calls.{AcceptsTo, Delivers, Drops, FindsBuffer, FindsNoBuffer, FindsNoSize, FindsPageInUse, GivesBlank, IsOpen}
 use Rattle.lan_buffers.specs.Port.{PortValue}
 use Rattle.lan_switch.specs.declared.answers.Offer.{Offer}
@@ -100,7 +100,7 @@ pub record IsOffered (name : StrokeName) (frame : List ℕ) (is_shared : Bool) (
   pub found : OnFound answer (FindsBuffer old (length frame))
   pub done : IfDone answer (Delivers old name frame new is_shared window window')
   pub ungranted : IfUngranted answer (GivesBlank old name (length frame) new window window')
-  pub in_use : IfInUse answer (λ page word. FindsPageInUse old (length frame) is_shared window window' page (Found page word))
+  pub in_use : IfSentInUse answer (λ page word. FindsPageInUse old (length frame) is_shared window window' page (Found page word))
   pub dropped : OnDropped answer (Drops old new)
   pub nothing : OnNothing answer (new ≡ old)
   pub window_is : LeavesWindow is_shared answer window window'

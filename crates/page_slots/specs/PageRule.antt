@@ -101,8 +101,8 @@ pub record InTurn (n seats : ℕ) (s : State Slot PageView) : Type 0 where
   pub each_seat : (j : ℕ) (v : PageView) → get_elem? s.views j ≡ some v → (k : ℕ) → k < n
       → KnowsPage j v k (slice_index s.words k) (get_elem? s.homes k) (now k)
 
-abbrev pub holds : PagesKey → State Slot PageView → Type 0
-holds key = InTurn key.pages key.seats
+abbrev pub key_holds : PagesKey → State Slot PageView → Type 0
+key_holds key = InTurn key.pages key.seats
 
 -- the first seat, which stands for all that are to be opened
 abbrev pub opened : PagesKey → PageView

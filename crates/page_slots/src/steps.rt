@@ -10,9 +10,9 @@ use atomic_table::{Join, Play, Split, TableRule};
 pub struct PageRule;
 
 impl TableRule<Option<Page>, PageView, PagesKey> for PageRule {
-    ghost use Rattle.page_slots.specs.PageRule.{holds, opened};
+    ghost use Rattle.page_slots.specs.PageRule.{key_holds, opened};
 
-    ghost holds = { holds };
+    ghost holds = { key_holds };
 
     ghost first = { opened };
 }

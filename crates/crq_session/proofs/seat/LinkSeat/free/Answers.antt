@@ -4,7 +4,7 @@ use Rattle.crq_ring.proofs.SessionLaws.{later_ended}
 use Rattle.crq_ring.specs.Later.{IsLater}
 use Rattle.crq_session.specs.Answers.{OnNothing, OnPut, IfKept}
 use Rattle.crq_session.specs.Answered.{Puts, Loses, FindsFull}
-use Rattle.crq_session.specs.SeatState.{end_at, spare_of}
+use Rattle.crq_session.specs.SeatState.{end_at, seat_spare_of}
 use Rattle.crq_session.proofs.Events.{told}
 use Rattle.crq_session.proofs.Seats.{closed_end}
 use Rattle.crq_session.proofs.seat.LinkSeat.free.Goals as goal
@@ -23,7 +23,7 @@ returns c =
           record {
             registered = search rules;
             freed = ap (λ v. v.is_open) did.recv ∙ ends.is_open;
-            tells = told true c.put_event.result c.args.event (end_at place old) (end_at place new) false (spare_of mid)
+            tells = told true c.put_event.result c.args.event (end_at place old) (end_at place new) false (seat_spare_of mid)
                 (subst (λ x. OnNothing c.put_event.result (Loses true x (end_at place new))) was (did.nothing place n))
                 (subst (λ x. OnPut c.put_event.result (Puts true x c.args.event (end_at place new))) was (did.put place n))
                 (subst (λ x. IfKept c.put_event.result (FindsFull true x (end_at place new))) was (did.still place n)) did.kept;
