@@ -2,7 +2,7 @@
 use Rattle.std.proofs.Common.{◌≡◌, ◌⊎◌, inl, inr, ℕ, ◌<◌, ◌≤◌, ◌++◌, Bool, true, false, List, [], ◌∷◌, refl, sym, ◌∙◌, ap, subst, arith, append-nil, append_assoc}
 use Rattle.std.proofs.lemmas.List.Elements.{All-nil, All-cons, All-append, All-weaker}
 use Rattle.crq_ring.specs.declared.rows.PipeRow.{PipeRow}
-use Rattle.crq_session.specs.EndState.{EndState}
+use Rattle.crq_session.specs.EndState.{EndPlace, EndState}
 use Rattle.vio_num.specs.Words.{Begins}
 use Rattle.tce_window.specs.Port.{Later}
 use Rattle.tce_window.specs.PortState.{PortState}
@@ -10,7 +10,7 @@ use Rattle.rdma_copy.proofs.Laws.{lawful_stays, side_same, side_on}
 use Rattle.rdma_copy.specs.declared.copy.CopyRecord.{CopyRecord}
 use Rattle.rdma_copy.specs.Copies.{side_of}
 use Rattle.rdma_copy.specs.Copy.{IsLawful, SideGrows}
-use Rattle.block_server.specs.Advances.{Advances, CopiesMore, IsOwnCopy, OpensLater, PutsMore}
+use Rattle.block_server.specs.Advances.{Advances, CopiesMore, IsOwnCopy, OpensLater, PutsMore, PutsNow, rows_elsewhere}
 use Rattle.block_server.specs.Entries.{MayPut}
 use Rattle.block_server.specs.SiteState.{Lenders, SiteState}
 use Rattle.block_server.proofs.OwnerNames.{owner_on, owner_same}
@@ -42,6 +42,16 @@ puts_on old mid new first next = record {
   more = first.more ++ next.more;
   put = next.put ∙ ap (λ front. front ++ next.more) first.put ∙ append_assoc old first.more next.more;
   may = All-append (λ row. MayPut row.entry) first.more next.more first.may next.may;
+}
+
+-- nothing was put
+pub now_none : (old new : EndState) → new.sent ≡ old.sent → PutsNow old new
+now_none old new same = record { others = ap (rows_elsewhere old.counts.partner_session) same; none = λ off. same }
+
+now_on : (old mid new : EndState) → mid.place ≡ old.place → mid.counts.partner_session ≡ old.counts.partner_session → PutsNow old mid → PutsNow mid new → PutsNow old new
+now_on old mid new place session first next = record {
+  others = subst (λ q. rows_elsewhere q new.sent ≡ rows_elsewhere q mid.sent) session next.others ∙ first.others;
+  none = λ off. next.none (ap (λ (p : EndPlace). p.partner_registered) place ∙ off) ∙ first.none off;
 }
 
 -- a copy of the unit stays one as more is known of the windows
@@ -101,6 +111,7 @@ advances_same site = record {
   client_place = refl;
   shared = refl;
   partner = λ plain. refl;
+  now = λ plain. now_none site.queue site.queue refl;
   closed = omega arith;
   values = λ e. later_same site.shared (site.client.values e);
   session = omega arith;
@@ -125,6 +136,8 @@ advances_on old mid new first next = record {
   client_place = next.client_place ∙ first.client_place;
   shared = next.shared ∙ first.shared;
   partner = λ plain. next.partner (ap (λ (reached : Lenders). reached.link_shared) first.reached ∙ plain) ∙ first.partner plain;
+  now = λ plain. now_on old.queue mid.queue new.queue first.queue_place (first.partner plain) (first.now plain)
+      (next.now (ap (λ (reached : Lenders). reached.link_shared) first.reached ∙ plain));
   closed = omega (arith, first.closed, next.closed);
   values = λ e. later_on old.shared (old.client.values e) (mid.client.values e) (new.client.values e) (first.values e)
       (subst (λ (shared : Bool). Later shared (mid.client.values e) (new.client.values e)) first.shared (next.values e));

@@ -41,7 +41,7 @@ answers_of_others unit other (row ∷ rows) (new ∷ news) apart only = by only.
   where
     by : StaysRow unit row new → answers_of other news ≡ answers_of other rows → answers_of other (new ∷ news) ≡ answers_of other (row ∷ rows)
     by (inl same) rest = same_row other row new rows news same rest
-    by (inr both) rest = answers_skip other new news (other_row unit other new apart both.1) ∙ rest ∙ sym (answers_skip other row rows (other_row unit other row apart both.0))
+    by (inr both) rest = answers_skip other new news (other_row unit other new apart both.is) ∙ rest ∙ sym (answers_skip other row rows (other_row unit other row apart both.was))
 
 -- a row of another unit stays where it is
 pub record Stays (other : UnitId) (before : List Served) (served : Served) (behind news : List Served) : Type 0 where
@@ -64,7 +64,7 @@ stays unit other [] served behind (new ∷ news) apart is only = by only.0
       place = refl;
       last = answers_of_others unit other behind news apart only.1;
     }
-    by (inr both) = absurd (apart (sym is ∙ both.0))
+    by (inr both) = absurd (apart (sym is ∙ both.was))
 stays unit other (x ∷ xs) served behind [] apart is only = absurd only
 stays unit other (x ∷ xs) served behind (new ∷ news) apart is only =
     let rest = stays unit other xs served behind news apart is only.1 in
@@ -179,6 +179,6 @@ answered_there unit iu history history' row answer is answers = put_there unit i
 
 -- another row of the unit in the place of the row in service
 pub only_there : (unit : UnitId) (iu : List ℕ) (history history' : List Served) (row : ℕ) (is : IsInService unit iu history row) (new : Served) → new.unit ≡ unit
-    → history' ≡ is.before ++ new ∷ is.behind → OnlyRowsOf unit history history'
-only_there unit iu history history' row is new unit_is set =
-    subst (λ (z : List Served × List Served). OnlyRowsOf unit z.0 z.1) (λ i. (sym is.history_is i, sym set i)) (stays_set unit is.before is.behind is.served new is.unit_is unit_is)
+    → new.login ≡ is.served.login → history' ≡ is.before ++ new ∷ is.behind → OnlyRowsOf unit history history'
+only_there unit iu history history' row is new unit_is login set =
+    subst (λ (z : List Served × List Served). OnlyRowsOf unit z.0 z.1) (λ i. (sym is.history_is i, sym set i)) (stays_set unit is.before is.behind is.served new is.unit_is unit_is login is.unanswered)

@@ -121,14 +121,14 @@ rows_stay unit other (row ∷ rows) (new ∷ news) apart only = by (rows_stay un
           (rows_first unit q (row_key row) (keys_of rows) (keys_of news) (rest.numbers q));
     }
     by rest (inr both) = record {
-      same = λ login. filter_pass (is_under unit login) (row_key new) (keys_of news) (no_row unit other login new apart both.1) ∙ rest.same login
-          ∙ sym (filter_pass (is_under unit login) (row_key row) (keys_of rows) (no_row unit other login row apart both.0));
+      same = λ login. filter_pass (is_under unit login) (row_key new) (keys_of news) (no_row unit other login new apart both.is) ∙ rest.same login
+          ∙ sym (filter_pass (is_under unit login) (row_key row) (keys_of rows) (no_row unit other login row apart both.was));
       under = λ all. All-cons (λ (k : RowKey). same_unit k.unit unit ≡ true → 1 ≤ k.login) (row_key new) (keys_of news)
-          (λ own. absurd (cc (own, apart_is new.unit unit (λ e. apart (sym both.1 ∙ e)))))
+          (λ own. absurd (cc (own, apart_is new.unit unit (λ e. apart (sym both.is ∙ e)))))
           (rest.under (All-tail (λ (k : RowKey). same_unit k.unit unit ≡ true → 1 ≤ k.login) (row_key row) (keys_of rows) all));
-      place = other_place rest both.0;
-      numbers = λ q. rows_passed unit q (row_key new) (keys_of news) (no_number unit other q new apart both.1) ∙ rest.numbers q
-          ∙ sym (rows_passed unit q (row_key row) (keys_of rows) (no_number unit other q row apart both.0));
+      place = other_place rest both.was;
+      numbers = λ q. rows_passed unit q (row_key new) (keys_of news) (no_number unit other q new apart both.is) ∙ rest.numbers q
+          ∙ sym (rows_passed unit q (row_key row) (keys_of rows) (no_number unit other q row apart both.was));
     }
 
 -- the books over them

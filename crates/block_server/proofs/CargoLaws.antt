@@ -169,7 +169,7 @@ kept_row other (first ∷ h) (new ∷ h') zero row only apart there = at only.0
 
     at : StaysRow other first new → Some first ≡ Some row
     at (inl same) = ap Some (sym same) ∙ there
-    at (inr both) = absurd (apart (ap (λ (r : Served). r.unit) (sym (one new row there)) ∙ both.1))
+    at (inr both) = absurd (apart (ap (λ (r : Served). r.unit) (sym (one new row there)) ∙ both.is))
 kept_row other (first ∷ h) (new ∷ h') (suc place) row only apart there = kept_row other h h' place row only.1 apart there
 
 stays_row : (other : UnitId) (h h' : List Served) (place : ℕ) (row : Served) → OnlyRowsOf other h h' → row.unit ≢ other → slice_get h place ≡ Some row → slice_get h' place ≡ Some row
@@ -182,7 +182,7 @@ stays_row other (first ∷ h) (new ∷ h') zero row only apart there = at only.0
 
     at : StaysRow other first new → Some new ≡ Some row
     at (inl same) = ap Some same ∙ there
-    at (inr both) = absurd (apart (ap (λ (r : Served). r.unit) (sym (one first row there)) ∙ both.0))
+    at (inr both) = absurd (apart (ap (λ (r : Served). r.unit) (sym (one first row there)) ∙ both.was))
 stays_row other (first ∷ h) (new ∷ h') (suc place) row only apart there = stays_row other h h' place row only.1 apart there
 
 -- the same of rows but for their answers

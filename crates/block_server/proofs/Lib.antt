@@ -102,3 +102,6 @@ pub mod Talks
 pub mod Standing
 pub mod Stood
 pub mod TurnRanges
+pub mod FirstTurns
+pub mod LastRows
+pub mod TurnRows

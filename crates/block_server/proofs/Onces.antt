@@ -204,7 +204,7 @@ module _ (one : SpellsOne) (d : Held) (a : Desk) (h h' : List ServedRow) (servin
       filled_there p.id iu h h' at inn row.in_service leaves.1
       ∙ ap (λ (xs : List ℕ). row.in_service.before ++ record row.in_service.served { inn = take leaves.0 xs } ∷ row.in_service.behind) (sym (made.given_is ∙ given)) in (
         answers_filled a.id iu h h' at inn is there,
-        only_there a.id iu h h' at is (record is.served { inn = inn }) is.unit_is there,
+        only_there a.id iu h h' at is (record is.served { inn = inn }) is.unit_is refl there,
         stays_there d h h' row.in_service.before row.in_service.behind row.in_service.served new row.in_service.history_is there'
             (may_cut one d.terms made.command reply row.in_service.served (known_of d.terms p h at reply row made) leaves.0 row.in_service.unanswered),
         written_there d.terms.told h h' row.in_service.before row.in_service.behind row.in_service.served new row.in_service.history_is there' (λ is. is),
@@ -374,7 +374,7 @@ module _ (a b : Desk) (s s' : List PipeRow) (h h' : List ServedRow) (put : PipeR
           rows = one ∙ ap (λ e. answers_of a.id h ++ e ∷ [])
               (ap (srp_entry (length a.answer)) (sym is.request.tagged ∙ ap (λ (r : Request). r.tag) same) ∙ sym entry_is);
         };
-        others = only_there a.id iu h h' row in_service (record in_service.served { answer = a.answer }) in_service.unit_is there;
+        others = only_there a.id iu h h' row in_service (record in_service.served { answer = a.answer }) in_service.unit_is refl there;
         stays = stays_there d h h' is.in_service.before is.in_service.behind is.in_service.served (record is.in_service.served { answer = a.answer })
             is.in_service.history_is (answered_there p.id iu h h' row a.answer is.in_service answers) may.may;
         written = written_there d.terms.told h h' is.in_service.before is.in_service.behind is.in_service.served (record is.in_service.served { answer = a.answer })

@@ -53,7 +53,7 @@ row_stays id other row new rows news apart only rest = record {
     front state (inl same) there own = ap (λ (r : Served). Some (row_state r)) (sym same) ∙ there
     front state (inr both) there own =
         let same : row_state new ≡ state = cc (there) in
-        absurd (cc (own, apart_is state.unit id (λ e. apart (sym both.1 ∙ ap (λ (m : RowState). m.unit) same ∙ e))))
+        absurd (cc (own, apart_is state.unit id (λ e. apart (sym both.is ∙ ap (λ (m : RowState). m.unit) same ∙ e))))
 
     back : (at : ℕ) (state : RowState) → slice_get (row_states (new ∷ news)) at ≡ Some state → same_unit state.unit id ≡ true → slice_get (row_states (row ∷ rows)) at ≡ Some state
     back zero state there own = front state only there own

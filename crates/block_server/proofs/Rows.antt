@@ -14,9 +14,16 @@ stays_same unit (row ∷ rows) = (inl refl, stays_same unit rows)
 
 stays_row_on : (unit : UnitId) (a b c : Served) → StaysRow unit a b → StaysRow unit b c → StaysRow unit a c
 stays_row_on unit a b c (inl same) (inl then) = inl (then ∙ same)
-stays_row_on unit a b c (inl same) (inr then) = inr (ap (λ row. row.unit) (sym same) ∙ then.0, then.1)
-stays_row_on unit a b c (inr was) (inl then) = inr (was.0, ap (λ row. row.unit) then ∙ was.1)
-stays_row_on unit a b c (inr was) (inr then) = inr (was.0, then.1)
+stays_row_on unit a b c (inl same) (inr then) =
+    inr (record {
+      was = ap (λ row. row.unit) (sym same) ∙ then.was;
+      is = then.is;
+      login = then.login ∙ ap (λ row. row.login) same;
+      unanswered = ap (λ row. row.answer) (sym same) ∙ then.unanswered;
+    })
+stays_row_on unit a b c (inr first) (inl then) =
+    inr (record { was = first.was; is = ap (λ row. row.unit) then ∙ first.is; login = ap (λ row. row.login) then ∙ first.login; unanswered = first.unanswered })
+stays_row_on unit a b c (inr first) (inr then) = inr (record { was = first.was; is = then.is; login = then.login ∙ first.login; unanswered = first.unanswered })
 
 -- rows that came stay the unit's
 came_on : (unit : UnitId) (rows news : List Served) → All (λ row. row.unit ≡ unit) rows → OnlyRowsOf unit rows news → All (λ row. row.unit ≡ unit) news
@@ -27,7 +34,7 @@ came_on unit (row ∷ rows) (new ∷ news) all only =
   where
     of : StaysRow unit row new → new.unit ≡ unit
     of (inl same) = ap (λ row. row.unit) same ∙ All-head (λ row. row.unit ≡ unit) row rows all
-    of (inr both) = both.1
+    of (inr changed) = changed.is
 
 pub stays_on : (unit : UnitId) (a b c : List Served) → OnlyRowsOf unit a b → OnlyRowsOf unit b c → OnlyRowsOf unit a c
 stays_on unit [] b c first next = came_on unit b c first next
@@ -41,10 +48,10 @@ stays_one unit [] row is = All-cons (λ row. row.unit ≡ unit) row [] is (All-n
 stays_one unit (x ∷ xs) row is = (inl refl, stays_one unit xs row is)
 
 -- another row in the place of one
-pub stays_set : (unit : UnitId) (before behind : List Served) (row new : Served) → row.unit ≡ unit → new.unit ≡ unit
+pub stays_set : (unit : UnitId) (before behind : List Served) (row new : Served) → row.unit ≡ unit → new.unit ≡ unit → new.login ≡ row.login → row.answer ≡ []
     → OnlyRowsOf unit (before ++ row ∷ behind) (before ++ new ∷ behind)
-stays_set unit [] behind row new was is = (inr (was, is), stays_same unit behind)
-stays_set unit (x ∷ xs) behind row new was is = (inl refl, stays_set unit xs behind row new was is)
+stays_set unit [] behind row new was is login none = (inr (record { was = was; is = is; login = login; unanswered = none }), stays_same unit behind)
+stays_set unit (x ∷ xs) behind row new was is login none = (inl refl, stays_set unit xs behind row new was is login none)
 
 pub answers_append : (unit : UnitId) (xs ys : List Served) → answers_of unit (xs ++ ys) ≡ answers_of unit xs ++ answers_of unit ys
 answers_append unit xs ys = ap (map answer_entry) (filter-append (is_answered_row unit) xs ys) ∙ map-append answer_entry (filter (is_answered_row unit) xs) (filter (is_answered_row unit) ys)

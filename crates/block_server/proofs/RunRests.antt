@@ -37,7 +37,7 @@ own_cons : (id other : UnitId) (row new : Served) (rest rest' : List Served) →
     → cond (same_unit new.unit id) (unanswered new ∷ rest') rest' ≡ cond (same_unit row.unit id) (unanswered row ∷ rest) rest
 own_cons id other row new rest rest' apart (inl same) rests = λ i. cond (same_unit (same i).unit id) (unanswered (same i) ∷ rests i) (rests i)
 own_cons id other row new rest rest' apart (inr both) rests =
-    other_row id new rest' (λ is. apart (sym is ∙ both.1)) ∙ rests ∙ sym (other_row id row rest (λ is. apart (sym is ∙ both.0)))
+    other_row id new rest' (λ is. apart (sym is ∙ both.is)) ∙ rests ∙ sym (other_row id row rest (λ is. apart (sym is ∙ both.was)))
 
 own_same : (id other : UnitId) (h h' : List Served) → id ≢ other → OnlyRowsOf other h h' → own_rows id (rows_of h') ≡ own_rows id (rows_of h)
 own_same id other [] h' apart only = none_own id other h' apart only
@@ -76,7 +76,7 @@ split_elsewhere id other (first ∷ h) (new ∷ h') [] row behind apart only own
       before = refl;
       after = own_same id other h h' apart only.1 ∙ ap (own_rows id) rest;
     }
-    by (inr both) = absurd (apart (sym own ∙ ap (λ (r : Served). r.unit) (sym head) ∙ both.0))
+    by (inr both) = absurd (apart (sym own ∙ ap (λ (r : Served). r.unit) (sym head) ∙ both.was))
 split_elsewhere id other (first ∷ h) (new ∷ h') (x ∷ front) row behind apart only own is =
     let head : unanswered first ≡ x = cc (is) in
     let rest : rows_of h ≡ front ++ row ∷ behind = cc (is) in

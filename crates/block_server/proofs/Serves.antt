@@ -403,7 +403,7 @@ once_cut one a b s h h' row n reply cursor request rest command id pending was i
             (record { front = request; rest = rest; parts = pending ∙ front; other = ap is_login order });
       };
       answers = more_none a.id s s h h' refl (answers_filled a.id iu h h' row (take n old.inn) served.in_service there);
-      others = only_there a.id iu h h' row served.in_service new served.in_service.unit_is there;
+      others = only_there a.id iu h h' row served.in_service new served.in_service.unit_is refl there;
       stays = stays_there d h h' served.in_service.before served.in_service.behind old new served.in_service.history_is there
           (may_cut one d.terms made.command reply old known n served.in_service.unanswered);
       written = written_there d.terms.told h h' served.in_service.before served.in_service.behind old new served.in_service.history_is there (λ is. is);

@@ -25,6 +25,7 @@ use Rattle.rdma_copy.specs.Copies.{Copies, OnlyCopies}
 use Rattle.rdma_copy.specs.declared.copy.CopyRecord.{CopyRecord}
 use Rattle.block_server.specs.Copied.{MakesOne, own_name}
 use Rattle.block_server.specs.SiteState.{SiteState}
+use Rattle.block_server.specs.Granting.{LoginState, login_state}
 use Rattle.block_server.specs.Standing.{HasAnswerAt, IsAnswerTo, IsPutLast, LeavesAnswer, Stands}
 use Rattle.block_server.specs.Talk.{HasRoomFor, IsAnswerAt, IsReadWhole, IsServable, MayWriteAnswer, PutsAnswer, Replies, Suits, SuitsStage, reach_of, session_rows}
 use Rattle.block_server.specs.Waits.{MeetsUse}
@@ -174,14 +175,14 @@ stands_same client client' a b bytes bytes' window same is = subst (λ (z : Port
 -- ANSWERS ----------------------------------------------------------------------------------------
 
 -- an answer was made
-pub answer_set : {A : Type 0} (granted : ℕ) (request : Request) (outcome : Outcome) (stage : Stage) (answer bytes : List ℕ) (result : Result A NoMemory) → OnOk result (stage ≡ stages.Answer outcome)
-    → OnOk result (answer ≡ bytes) → IsAnswerTo granted request.tag request.order outcome bytes → OnOk result (HasAnswerAt granted request stage answer)
-answer_set granted request outcome stage answer bytes (Err memory) at is of = tt
-answer_set granted request outcome stage answer bytes (Ok done) at is of = subst (λ (z : Stage × List ℕ). HasAnswerAt granted request z.0 z.1) (λ i. (sym at i, sym is i)) of
+pub answer_set : {A : Type 0} (on : LoginState) (request : Request) (outcome : Outcome) (stage : Stage) (answer bytes : List ℕ) (result : Result A NoMemory) → OnOk result (stage ≡ stages.Answer outcome)
+    → OnOk result (answer ≡ bytes) → IsAnswerTo on.current on.granted request.tag request.order outcome bytes → OnOk result (HasAnswerAt on request stage answer)
+answer_set on request outcome stage answer bytes (Err memory) at is of = tt
+answer_set on request outcome stage answer bytes (Ok done) at is of = subst (λ (z : Stage × List ℕ). HasAnswerAt on request z.0 z.1) (λ i. (sym at i, sym is i)) of
 
-pub answer_at_now : (granted : ℕ) (request : Request) (outcome : Outcome) (stage : Stage) (answer bytes : List ℕ) → stage ≡ stages.Answer outcome → answer ≡ bytes → IsAnswerTo granted request.tag request.order outcome bytes
-    → HasAnswerAt granted request stage answer
-answer_at_now granted request outcome stage answer bytes at is of = subst (λ (z : Stage × List ℕ). HasAnswerAt granted request z.0 z.1) (λ i. (sym at i, sym is i)) of
+pub answer_at_now : (on : LoginState) (request : Request) (outcome : Outcome) (stage : Stage) (answer bytes : List ℕ) → stage ≡ stages.Answer outcome → answer ≡ bytes → IsAnswerTo on.current on.granted request.tag request.order outcome bytes
+    → HasAnswerAt on request stage answer
+answer_at_now on request outcome stage answer bytes at is of = subst (λ (z : Stage × List ℕ). HasAnswerAt on request z.0 z.1) (λ i. (sym at i, sym is i)) of
 
 -- it has a tag
 pub answers_tag : (P Q : Rsp → Type 0) → ((r : Rsp) → P r → Q r) → (bytes : List ℕ) → Answers bytes P → Answers bytes Q
@@ -189,28 +190,28 @@ answers_tag P Q more [] is = tt
 answers_tag P Q more (byte ∷ bytes) is = (is.0, is.1, more is.0 is.2)
 
 -- before the disk step there is none
-pub before_answer : (granted : ℕ) (request : Request) (stage : Stage) (answer : List ℕ) → is_before_step stage ≡ true → HasAnswerAt granted request stage answer
-before_answer granted request stages.Start answer before = tt
-before_answer granted request stages.OutTable answer before = tt
-before_answer granted request stages.InTable answer before = tt
-before_answer granted request (stages.DataOut cursor) answer before = tt
-before_answer granted request (stages.Given row reply) answer before = tt
-before_answer granted request (stages.DataIn row reply cursor) answer before = tt
-before_answer granted request (stages.Answer outcome) answer before = absurd (cc (before))
-before_answer granted request (stages.Entry outcome) answer before = absurd (cc (before))
+pub before_answer : (on : LoginState) (request : Request) (stage : Stage) (answer : List ℕ) → is_before_step stage ≡ true → HasAnswerAt on request stage answer
+before_answer on request stages.Start answer before = tt
+before_answer on request stages.OutTable answer before = tt
+before_answer on request stages.InTable answer before = tt
+before_answer on request (stages.DataOut cursor) answer before = tt
+before_answer on request (stages.Given row reply) answer before = tt
+before_answer on request (stages.DataIn row reply cursor) answer before = tt
+before_answer on request (stages.Answer outcome) answer before = absurd (cc (before))
+before_answer on request (stages.Entry outcome) answer before = absurd (cc (before))
 
 -- THE OLDEST REQUEST -----------------------------------------------------------------------------
 
 -- an answer that is made and not yet copied is to be
-made_at : (granted : ℕ) (request : Request) (stage : Stage) (made : List ℕ) → is_answered stage ≡ true → HasAnswerAt granted request stage made → (outcome : Outcome) × (stage ≡ stages.Answer outcome)
-made_at granted request (stages.Answer outcome) made answered has = (outcome, refl)
-made_at granted request (stages.Entry outcome) made answered has = absurd has
-made_at granted request stages.Start made answered has = absurd (cc (answered))
-made_at granted request stages.OutTable made answered has = absurd (cc (answered))
-made_at granted request stages.InTable made answered has = absurd (cc (answered))
-made_at granted request (stages.DataOut cursor) made answered has = absurd (cc (answered))
-made_at granted request (stages.Given row reply) made answered has = absurd (cc (answered))
-made_at granted request (stages.DataIn row reply cursor) made answered has = absurd (cc (answered))
+made_at : (on : LoginState) (request : Request) (stage : Stage) (made : List ℕ) → is_answered stage ≡ true → HasAnswerAt on request stage made → (outcome : Outcome) × (stage ≡ stages.Answer outcome)
+made_at on request (stages.Answer outcome) made answered has = (outcome, refl)
+made_at on request (stages.Entry outcome) made answered has = absurd has
+made_at on request stages.Start made answered has = absurd (cc (answered))
+made_at on request stages.OutTable made answered has = absurd (cc (answered))
+made_at on request stages.InTable made answered has = absurd (cc (answered))
+made_at on request (stages.DataOut cursor) made answered has = absurd (cc (answered))
+made_at on request (stages.Given row reply) made answered has = absurd (cc (answered))
+made_at on request (stages.DataIn row reply cursor) made answered has = absurd (cc (answered))
 
 put_last : (old new : EndState) (entry : Entry) → Replies old new (entry ∷ []) → IsPutLast new entry
 put_last old new entry is = λ on. (
@@ -223,7 +224,7 @@ put_last old new entry is = λ on. (
 pub leaves_first : {A : Type 0} (link : Bool) (unit unit2 unit' : Unit) (old mid new : SiteState) (l2 l' : List Grant) (found request : Request) (xs rest : List Request) (stage : Stage) (made : List ℕ)
     (result : Result A NoMemory) → IsServable unit (reach_of old) link request rest → unit.pending.items ≡ found ∷ xs → Advances old mid → mid.queue ≡ old.queue
     → unit2.pending.items ≡ unit.pending.items → unit2.service.stage ≡ stage → unit2.service.answer.items ≡ made → (is_answered stage ≡ true) ⊎ MeetsUse old mid
-    → SuitsStage unit.logins.current found.order stage → HasAnswerAt unit.logins.granted found stage made
+    → SuitsStage unit.logins.current found.order stage → HasAnswerAt (login_state unit.logins) found stage made
     → ((outcome : Outcome) → IsAnswerAt unit2.service.stage outcome → unit2.pending.items ≡ request ∷ rest → link ≡ false → mid.shared ≡ false → mid.queue.registered ≡ true
     → MayWriteAnswer mid.client request.address → HasRoomFor mid.queue 1
     → OnOk result (PutsAnswer unit2 unit' mid.queue new.queue l2 l' outcome (srp_entry (length unit2.service.answer.items) request.tag)))
@@ -239,7 +240,7 @@ leaves_first link unit unit2 unit' old mid new l2 l' found request xs rest stage
     by : (is_answered stage ≡ true) ⊎ MeetsUse old mid → LeavesAnswer unit.logins.current unit.logins.granted request.address request.tag request.order new.queue new.client
     by (inr busy) = absurd (not_in_use old mid servable.apart busy)
     by (inl answered) =
-        let is = made_at unit.logins.granted found stage made answered has in
+        let is = made_at (login_state unit.logins) found stage made answered has in
         let same = first_same unit.pending.items found request xs rest front servable.pending in
         let may = may_later old mid request.address servable.apart advances servable.may in
         let apart : mid.shared ≡ false = advances.shared ∙ servable.apart in
@@ -250,7 +251,7 @@ leaves_first link unit unit2 unit' old mid new l2 l' found request xs rest stage
           outcome = is.0;
           suits = subst (λ (r : Request). Suits unit.logins.current r.order is.0) same (suits_at unit.logins.current found.order stage is.0 (inl is.1) suits);
           bytes = made;
-          answer = subst (λ (r : Request). IsAnswerTo unit.logins.granted r.tag r.order is.0 made) same (subst (λ (s : Stage). HasAnswerAt unit.logins.granted found s made) is.1 has);
+          answer = subst (λ (r : Request). IsAnswerTo unit.logins.current unit.logins.granted r.tag r.order is.0 made) same (subst (λ (s : Stage). HasAnswerAt (login_state unit.logins) found s made) is.1 has);
           put = subst (λ (list : List ℕ). IsPutLast new.queue (srp_entry (length list) request.tag)) made_is
               (put_last mid.queue new.queue (srp_entry (length unit2.service.answer.items) request.tag) put.put);
           stands = subst (λ (list : List ℕ). Stands new.client request.address list) made_is (laid is.0 (at ∙ is.1) (pending ∙ servable.pending) apart may);

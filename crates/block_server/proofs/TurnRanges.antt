@@ -24,7 +24,7 @@ use Rattle.block_server.proofs.Talks.{AreMay, heard_still, may_all, may_known, r
 -- WHAT WAS HEARD ---------------------------------------------------------------------------------
 
 -- at which address a request came, its tag, and what it asks
-abbrev asks_at : Request → ℕ × ℕ × Order
+abbrev pub asks_at : Request → ℕ × ℕ × Order
 asks_at request = (request.address, request.tag, request.order)
 
 -- the login that is on, how many requests it grants, and what is pending
@@ -64,15 +64,15 @@ alike_all (word ∷ words) a b a' b' number same is is' =
     alike_all words is.0 is'.0 a' b' (number + 1) (alike_one a b is.0 is'.0 number word same is.1 is'.1) is.2 is'.2
 
 -- what is pending behind it, of two that heard the same
-pending_alike : (words : List Word) (talk a b : Talk) (number : ℕ) (rest : List Request) → HearsAll talk number words a → HearsAll talk number words b → b.pending ≡ rest
+pub pending_alike : (words : List Word) (talk a b : Talk) (number : ℕ) (rest : List Request) → HearsAll talk number words a → HearsAll talk number words b → b.pending ≡ rest
     → map asks_at a.pending ≡ map asks_at rest
 pending_alike words talk a b number rest is is' pending =
     ap (λ (v : ℕ × ℕ × List (ℕ × ℕ × Order)). v.2) (alike_all words talk talk a b number refl is is') ∙ ap (λ (l : List Request). map asks_at l) pending
 
-first_asks : (a b : ℕ × ℕ × Order) (xs ys : List (ℕ × ℕ × Order)) → a ∷ xs ≡ b ∷ ys → a ≡ b
+pub first_asks : (a b : ℕ × ℕ × Order) (xs ys : List (ℕ × ℕ × Order)) → a ∷ xs ≡ b ∷ ys → a ≡ b
 first_asks a b xs ys same = cc (same)
 
-no_first : (a : ℕ × ℕ × Order) (xs : List (ℕ × ℕ × Order)) → [] ≡ a ∷ xs → ⊥
+pub no_first : (a : ℕ × ℕ × Order) (xs : List (ℕ × ℕ × Order)) → [] ≡ a ∷ xs → ⊥
 no_first a xs same = cc (same)
 
 wrote_alike : (Hears : Hearing) (old new : Option Known) (pending : List Request) (request : Request) (rest : List Request)
@@ -94,7 +94,7 @@ leaves_alike current granted queue client (first ∷ others) request rest leaves
     alike : asks_at first ≡ asks_at request
     alike = first_asks (asks_at first) (asks_at request) (map asks_at others) (map asks_at rest) same
 
-none_alike : (pending : List Request) → map asks_at pending ≡ [] → pending ≡ []
+pub none_alike : (pending : List Request) → map asks_at pending ≡ [] → pending ≡ []
 none_alike [] same = refl
 none_alike (first ∷ others) same = absurd (no_first (asks_at first) (map asks_at others) (sym same))
 
@@ -201,7 +201,7 @@ leaves_from unit unit1 old words queue client talk is = record {
 }
 
 -- the unit of a number, which is then that of the turn
-found_same : (found unit : Unit) → Some found ≡ Some unit → found ≡ unit
+pub found_same : (found unit : Unit) → Some found ≡ Some unit → found ≡ unit
 found_same found unit same = cc (same)
 
 pub unit_writes : {A : Type 0} (Hears : Hearing) (link : Bool) (units : List Unit) (n : ℕ) (unit found : Unit) (reach : Reach) (words : List Word) (old new : Option Known)

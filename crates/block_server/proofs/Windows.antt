@@ -25,7 +25,7 @@ use Rattle.block_server.specs.Ready.{FindsUse}
 use Rattle.block_server.specs.Makers.{AreNamed}
 use Rattle.block_server.specs.OwnerStrokes.{LaysNoneOfOwner}
 use Rattle.block_server.specs.SiteState.{Lenders, site}
-use Rattle.block_server.proofs.Advancing.{begins_on, begins_same, copies_none, copies_one, puts_none}
+use Rattle.block_server.proofs.Advancing.{begins_on, begins_same, copies_none, copies_one, now_none, puts_none}
 
 -- a page grew on which strokes were laid behind what it had
 with_more : (shared : Bool) (old before : Option (List StrokeValue)) (more : List StrokeValue) → Grows shared old before → Grows true old (with_strokes before more)
@@ -84,6 +84,7 @@ windows_move reached queue own own' client client' shared copies copies' own_pla
   client_place = client_place;
   shared = refl;
   partner = λ plain. refl;
+  now = λ plain. now_none queue queue refl;
   closed = omega arith;
   values = values;
   session = omega arith;

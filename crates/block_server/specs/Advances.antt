@@ -1,6 +1,6 @@
 -- What a unit's calls leave of its queue and of the two windows: nothing that was known is gone, nothing was put but what a
 -- unit may put, and nothing was copied but by lawful copies.
-use Rattle.std.specs.Prelude.{◌≡◌, ◌<◌, ◌≤◌, ◌⊎◌, ◌++◌, ℕ, Bool, false, true, All, List, Some}
+use Rattle.std.specs.Prelude.{◌≡◌, ◌==◌, ◌<◌, ◌≤◌, ◌⊎◌, ◌++◌, ℕ, Bool, false, true, not, All, List, Some, filter}
 use Rattle.vio_num.specs.declared.entry.Entry.{Entry}
 use Rattle.vio_num.specs.Entry.{partner_freed}
 use Rattle.crq_ring.specs.declared.rows.PipeRow.{PipeRow}
@@ -21,6 +21,15 @@ pub record PutsMore (old new : List PipeRow) : Type 0 where
   pub more : List PipeRow
   pub put : new ≡ old ++ more
   pub may : All (λ row. MayPut row.entry) more
+
+-- the rows of other sessions than this one
+abbrev pub rows_elsewhere : (session : ℕ) → List PipeRow → List PipeRow
+rows_elsewhere session rows = filter (λ row. not (row.session == session)) rows
+
+-- What was put is of the partner's session, and nothing was where the partner's queue is not registered.
+pub record PutsNow (old new : EndState) : Type 0 where
+  pub others : rows_elsewhere old.counts.partner_session new.sent ≡ rows_elsewhere old.counts.partner_session old.sent
+  pub none : old.place.partner_registered ≡ false → new.sent ≡ old.sent
 
 -- A queue that is registered was so before, or it is in a later session.
 abbrev pub OpensLater : (old new : EndState) → Type 0
@@ -55,6 +64,7 @@ pub record Advances (old new : SiteState) : Type 0 where
   pub shared : new.shared ≡ old.shared
   -- where nobody else changes the link, the partner is in its session of before
   pub partner : old.reached.link_shared ≡ false → new.queue.counts.partner_session ≡ old.queue.counts.partner_session
+  pub now : old.reached.link_shared ≡ false → PutsNow old.queue new.queue
   -- the sends that found the partner's queue closed are counted
   pub closed : old.queue.counts.closed ≤ new.queue.counts.closed
   pub values : (e : ℕ) → Later old.shared (old.client.values e) (new.client.values e)

@@ -49,9 +49,16 @@ pub record IsInService (unit : UnitId) (iu : List ℕ) (history : List Served) (
   pub unanswered : served.answer ≡ []
   pub last : answers_of unit behind ≡ []
 
--- a row of before, later: as it was, or one of this unit's still
+-- A row of this unit changed: it had no answer, and is of the same login.
+pub record ChangesRow (unit : UnitId) (old new : Served) : Type 0 where
+  pub was : old.unit ≡ unit
+  pub is : new.unit ≡ unit
+  pub login : new.login ≡ old.login
+  pub unanswered : old.answer ≡ []
+
+-- a row of before, later: as it was, or one of this unit's that changed
 abbrev pub StaysRow : UnitId → Served → Served → Type 0
-StaysRow unit old new = (new ≡ old) ⊎ ((old.unit ≡ unit) × (new.unit ≡ unit))
+StaysRow unit old new = (new ≡ old) ⊎ ChangesRow unit old new
 
 -- Only rows of this unit changed or came.
 abbrev pub OnlyRowsOf : UnitId → List Served → List Served → Type 0

@@ -38,6 +38,7 @@ pub mod Rejecting
 pub mod Responses
 pub mod Service
 pub mod Resting
+pub mod RowsOn
 pub mod Runs
 pub mod Serving
 pub mod SiteState

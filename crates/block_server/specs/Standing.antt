@@ -10,7 +10,9 @@ use Rattle.srp_iu.specs.declared.login.LoginReq.{LoginReq}
 use Rattle.tce_window.specs.PortState.{PortState}
 use Rattle.block_server.specs.Causes.{Hearing}
 use Rattle.block_server.specs.Causes.News.{fetched}
-use Rattle.block_server.specs.Responses.{Answers, GrantsLogin, RejectsLogin}
+use Rattle.block_server.specs.Ends.{IsRejection}
+use Rattle.block_server.specs.Granting.{LoginState}
+use Rattle.block_server.specs.Responses.{Answers, GrantsLogin}
 use Rattle.block_server.specs.Talk.{HearsAll, IsReadWhole, StandAt, Suits, Talk, Word, talk_of}
 use Rattle.block_server.specs.declared.logins.Logins.{Logins}
 use Rattle.block_server.specs.declared.request.Order.{Order}
@@ -32,22 +34,22 @@ abbrev pub stood : PortState → Hearing
 stood client (fetched address at bytes) = IsReadWhole client address bytes
 stood client news = ⊥
 
--- The bytes are those of an answer to a request with this tag that asks this, which does this once its entry is put, where a login is
--- granted so many requests.
-abbrev pub IsAnswerTo : (granted tag : ℕ) → Order → Outcome → List ℕ → Type 0
-IsAnswerTo granted tag order (outcomes.Granted number) bytes = (login : LoginReq) × (order ≡ orders.Login login) × GrantsLogin bytes login.tag granted
-IsAnswerTo granted tag order outcomes.Rejected bytes = (login : LoginReq) × (reason : ℕ) × (order ≡ orders.Login login) × RejectsLogin bytes login.tag reason
-IsAnswerTo granted tag order (outcomes.Served row) bytes = Answers bytes (λ r. (r.tag ≡ tag) × (r.delta ≡ 1))
+-- The bytes are those of an answer to a request with this tag that asks this, which does this once its entry is put, where this login is
+-- on (0: none) and one that is granted has so many requests: a login is rejected for the first cause that stands.
+abbrev pub IsAnswerTo : (current granted tag : ℕ) → Order → Outcome → List ℕ → Type 0
+IsAnswerTo current granted tag order (outcomes.Granted number) bytes = (login : LoginReq) × (order ≡ orders.Login login) × GrantsLogin bytes login.tag granted
+IsAnswerTo current granted tag order outcomes.Rejected bytes = (login : LoginReq) × (order ≡ orders.Login login) × IsRejection current login bytes
+IsAnswerTo current granted tag order (outcomes.Served row) bytes = Answers bytes (λ r. (r.tag ≡ tag) × (r.delta ≡ 1))
 
 -- An answer at this stage is such a one, and is not yet copied.
-abbrev pub HasAnswerAt : (granted : ℕ) → Request → Stage → List ℕ → Type 0
-HasAnswerAt granted request (stages.Answer outcome) bytes = IsAnswerTo granted request.tag request.order outcome bytes
-HasAnswerAt granted request (stages.Entry outcome) bytes = ⊥
-HasAnswerAt granted request stage bytes = ⊤
+abbrev pub HasAnswerAt : LoginState → Request → Stage → List ℕ → Type 0
+HasAnswerAt logins request (stages.Answer outcome) bytes = IsAnswerTo logins.current logins.granted request.tag request.order outcome bytes
+HasAnswerAt logins request (stages.Entry outcome) bytes = ⊥
+HasAnswerAt logins request stage bytes = ⊤
 
 -- the same of a service
-abbrev pub HasAnswer : (granted : ℕ) → Request → Service → Type 0
-HasAnswer granted request service = HasAnswerAt granted request service.stage service.answer.items
+abbrev pub HasAnswer : LoginState → Request → Service → Type 0
+HasAnswer logins request service = HasAnswerAt logins request service.stage service.answer.items
 
 -- The entry was put last, if the partner's queue is registered.
 abbrev pub IsPutLast : EndState → Entry → Type 0
@@ -59,7 +61,7 @@ pub record LeavesAnswer (current granted address tag : ℕ) (order : Order) (que
   pub outcome : Outcome
   pub suits : Suits current order outcome
   pub bytes : List ℕ
-  pub answer : IsAnswerTo granted tag order outcome bytes
+  pub answer : IsAnswerTo current granted tag order outcome bytes
   pub put : IsPutLast queue (srp_entry (length bytes) tag)
   pub stands : Stands client address bytes
 

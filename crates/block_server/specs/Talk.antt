@@ -1,11 +1,11 @@
 -- What a unit does with what is to come where nothing is amiss: each entry is taken, each request is accepted, and no session ends.
-use Rattle.std.specs.Prelude.{◌≡◌, ◌≢◌, ◌⊎◌, ◌+◌, ◌-◌, ◌<◌, ◌≤◌, ◌++◌, ℕ, Bool, true, false, ⊤, All, List, [], ◌∷◌, Some, None, drop, length, map, slice_get, if◌then◌else◌}
+use Rattle.std.specs.Prelude.{◌≡◌, ◌≢◌, ◌⊎◌, ◌+◌, ◌-◌, ◌<◌, ◌≤◌, ◌++◌, ℕ, Bool, true, false, ⊤, All, List, [], ◌∷◌, Some, None, IfSome, drop, length, map, slice_get, if◌then◌else◌}
 use Rattle.crq_ring.specs.declared.rows.PipeRow.{PipeRow}
 use Rattle.crq_session.specs.Answered.{partner_took, received_now, sent_now, taken_now}
 use Rattle.crq_session.specs.EndState.{EndState}
 use Rattle.crq_session.specs.Handshake.{state_after}
 use Rattle.crq_session.specs.declared.handshake.Handshake.{Handshake}
-use Rattle.crq_session.specs.declared.handshake.Handshake.TheVariants.{Down, Up}
+use Rattle.crq_session.specs.declared.handshake.Handshake.TheVariants.{Down, Up, Waiting}
 use Rattle.srp_iu.specs.Grammar.{Spells}
 use Rattle.srp_iu.specs.declared.unit.Iu.{Iu}
 use Rattle.srp_iu.specs.declared.unit.Iu.TheVariants as units
@@ -19,6 +19,7 @@ use Rattle.vio_num.specs.declared.entry.Entry.{Entry}
 use Rattle.vio_num.specs.declared.history.Grant.{Grant}
 use Rattle.vio_num.specs.declared.history.Grant.TheVariants.{Granted, Lapsed}
 use Rattle.vio_num.specs.declared.history.Lapse.TheVariants.{Logout, Lost}
+use Rattle.vio_num.specs.declared.history.Served.{Served}
 use Rattle.vio_num.specs.declared.names.UnitId.{UnitId}
 use Rattle.block_server.specs.Closings.{is_event}
 use Rattle.block_server.specs.Ends.{IsGrantable}
@@ -486,3 +487,89 @@ pub record UnitTalksOn (units' : List Unit) (number : ℕ) (unit : Unit) (old : 
   pub unit' : Unit
   pub there : slice_get units' number ≡ Some unit'
   pub talks : TalksOn unit unit' old new lines lines' words
+
+-- THE FIRST TURN ----------------------------------------------------------------------------------
+
+-- The unit is as it was made: its queue is not registered, no entry waits or is kept, no login is on, and nothing is pending.
+pub record IsNewUnit (unit : Unit) : Type 0 where
+  pub handshake : unit.line.handshake ≡ Down
+  pub closing : unit.line.closing ≡ false
+  pub kept : unit.line.kept ≡ None
+  pub waiting : unit.waiting ≡ None
+  pub stage : unit.service.stage ≡ stages.Start
+  pub current : unit.logins.current ≡ 0
+  pub taking : unit.logins.taking ≡ false
+  pub pending : unit.pending.items ≡ []
+
+-- each unit is
+abbrev pub AreNewUnits : List Unit → Type 0
+AreNewUnits units = (number : ℕ) → IfSome (slice_get units number) IsNewUnit
+
+-- So is this one before its first turn, where nobody else changes the link or has a hand in the client's window, neither the unit's queue
+-- nor its partner's is registered, and no event is kept.
+pub record IsNewThere (unit : Unit) (at : Reach) (link_shared : Bool) : Type 0 where
+  pub alone : link_shared ≡ false
+  pub apart : at.shared ≡ false
+  pub unregistered : at.queue.registered ≡ false
+  pub partner : at.queue.place.partner_registered ≡ false
+  pub event : at.queue.kept ≡ None
+  pub made : IsNewUnit unit
+
+-- The end of a queue is as it was, but for counts and for the calls for which room is reserved.
+pub record StaysQuiet (old new : EndState) : Type 0 where
+  pub place : new.place ≡ old.place
+  pub last_session : new.last_session ≡ old.last_session
+  pub registered : new.registered ≡ old.registered
+  pub kept : new.kept ≡ old.kept
+  pub sent : new.sent ≡ old.sent
+  pub taken : new.taken ≡ old.taken
+
+-- The unit waits for its partner in a session that has begun, and is else as it was, but that it may have done something.
+pub record AwaitsPartner (unit unit' : Unit) : Type 0 where
+  pub id : unit'.id ≡ unit.id
+  pub handshake : unit'.line.handshake ≡ Waiting
+  pub closing : unit'.line.closing ≡ unit.line.closing
+  pub kept : unit'.line.kept ≡ unit.line.kept
+  pub waiting : unit'.waiting ≡ unit.waiting
+  pub stage : unit'.service.stage ≡ unit.service.stage
+  pub logins : unit'.logins ≡ unit.logins
+  pub pending : unit'.pending.items ≡ unit.pending.items
+
+-- So it has, and nothing was put.
+pub record BeginsAlone (unit unit' : Unit) (old new : Reach) : Type 0 where
+  pub unit_is : AwaitsPartner unit unit'
+  pub queue : StaysQuiet old.queue new.queue
+  pub window : new.client ≡ old.client
+
+-- The unit's queue is registered, in a session in which nothing is to come; nothing was put, since the partner's is not registered; and the
+-- unit has begun to wait for its partner, and is else as it was. The client's window is, too.
+pub record OpensUnit (unit unit' : Unit) (old new : Reach) : Type 0 where
+  pub registered : new.queue.registered ≡ true
+  pub event : new.queue.kept ≡ None
+  pub place : new.queue.place ≡ old.queue.place
+  pub session : new.queue.last_session ≡ old.queue.last_session + 1
+  pub sent : new.queue.sent ≡ old.queue.sent
+  pub taken : new.queue.taken ≡ old.queue.taken
+  pub none_taken : taken_now new.queue ≡ []
+  pub none : to_come new.queue ≡ []
+  pub id : unit'.id ≡ unit.id
+  pub handshake : unit'.line.handshake ≡ Waiting
+  pub closing : unit'.line.closing ≡ false
+  pub kept : unit'.line.kept ≡ None
+  pub waiting : unit'.waiting ≡ None
+  pub stage : unit'.service.stage ≡ stages.Start
+  pub logins : unit'.logins ≡ unit.logins
+  pub pending : unit'.pending.items ≡ []
+  pub window : new.client ≡ old.client
+
+-- What the first turn leaves: this, and the lines and the rows as they were.
+pub record OpensOn (unit unit' : Unit) (old new : Reach) (lines lines' : List Grant) (rows rows' : List Served) : Type 0 where
+  pub opens : OpensUnit unit unit' old new
+  pub lines_are : lines' ≡ lines
+  pub rows_are : rows' ≡ rows
+
+-- The unit of this number, after such a turn.
+pub record UnitOpensOn (units' : List Unit) (number : ℕ) (unit : Unit) (old new : Reach) (lines lines' : List Grant) (rows rows' : List Served) : Type 0 where
+  pub unit' : Unit
+  pub there : slice_get units' number ≡ Some unit'
+  pub opens : OpensOn unit unit' old new lines lines' rows rows'

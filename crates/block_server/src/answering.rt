@@ -15,10 +15,11 @@ ghost use Rattle.block_server.specs.Judges.{Judges};
 ghost use Rattle.block_server.specs.Judged.{Ahead, Keeps, gets_row, is_login, is_logout, keys_of};
 ghost use Rattle.block_server.specs.LoginAnswers.{login_put};
 ghost use Rattle.block_server.specs.Moves.{Passes};
-ghost use Rattle.block_server.specs.Owed.{AreCutOff, HasAnswers, IsUp, KeepsAnswers, KeepsAnswersBy, row_states, owing_of};
+ghost use Rattle.block_server.specs.Owed.{AreCutOff, HasAnswers, IsUp, KeepsAnswers, KeepsAnswersBy, row_in, row_states, owing_of};
 ghost use Rattle.block_server.specs.Receipts.{LinesMore, TakesIn, is_ended, standing_of};
 ghost use Rattle.block_server.specs.Ranges.{IsAnswerRange, LaysIn, client_known};
 ghost use Rattle.block_server.specs.Ready.{MeetsFull};
+ghost use Rattle.block_server.specs.RowsOn.{KeepsLastRow};
 ghost use Rattle.block_server.specs.Standing.{Stands};
 ghost use Rattle.block_server.specs.Refusals.{DeniesAnswer, Explains, ExplainsBy, ExplainsOf, ExplainsOn, ExplainsSends, ledger_at, ledger_of};
 ghost use Rattle.crq_ring.specs.declared.rows.PipeRow.{PipeRow};
@@ -74,6 +75,8 @@ pub(crate) fn put_reply<S: Site>(unit: &mut Unit, site: &mut S, reply: Entry) ->
         HasRoomFor (S.state site.old).queue 1 → (result ≡ Next.Entry) ×
         IsReplied unit.old unit.new
         (reach_of (S.state site.old)) (reach_of (S.state site.new)) reply }
+    ensures event { (S.state site.new).queue.kept ≡ (S.state site.old).queue.kept }
+    ensures service { unit.new.service ≡ unit.old.service }
 {
     match site.send(reply) {
         SendAnswer::Dropped { .. } => {
@@ -114,6 +117,8 @@ pub(crate) fn end_session(
         shown'.pages.count ≡ shown.pages.count → KeepsCargo
         (cargo_at unit.old.id unit.old.service shown records.old.history.items)
         (cargo_at unit.new.id unit.new.service shown' records.new.history.items) }
+    ensures row { LeavesRow unit.old.service.stage unit.old.service.given.items
+        records.old.history.items records.new.history.items }
 {
     end_counted(unit, session, records, cause, 0, 0)
 }
@@ -148,6 +153,8 @@ pub(crate) fn end_counted(
         shown'.pages.count ≡ shown.pages.count → KeepsCargo
         (cargo_at unit.old.id unit.old.service shown records.old.history.items)
         (cargo_at unit.new.id unit.new.service shown' records.new.history.items) }
+    ensures row { LeavesRow unit.old.service.stage unit.old.service.given.items
+        records.old.history.items records.new.history.items }
 {
     end_login(unit, session, records, cause, outstanding, granted);
     unit.line.closing = true;
@@ -178,6 +185,8 @@ pub(crate) fn lose_partner(unit: &mut Unit, session: u64, records: &mut Records)
         (cargo_at unit.old.id unit.old.service shown records.old.history.items)
         (cargo_at unit.new.id unit.new.service shown' records.new.history.items) }
     ensures closing { unit.new.line.closing ≡ unit.old.line.closing }
+    ensures row { LeavesRow unit.old.service.stage unit.old.service.given.items
+        records.old.history.items records.new.history.items }
 {
     end_login(unit, session, records, Lapse::Lost, 0, 0);
 }
@@ -211,6 +220,8 @@ fn end_login(
         shown'.pages.count ≡ shown.pages.count → KeepsCargo
         (cargo_at unit.old.id unit.old.service shown records.old.history.items)
         (cargo_at unit.new.id unit.new.service shown' records.new.history.items) }
+    ensures row { LeavesRow unit.old.service.stage unit.old.service.given.items
+        records.old.history.items records.new.history.items }
 {
     bytes_spell_one();
     leave_row(unit, records);
@@ -305,6 +316,7 @@ pub(crate) fn log_out(unit: &mut Unit, session: u64, records: &mut Records)
     ensures stage { unit.new.service.stage ≡ Stage.Start }
     ensures out { (q : EndState) → session ≡ q.last_session → LogsOut unit.old unit.new q q
         records.old.grants.items records.new.grants.items }
+    ensures history { records.new.history.items ≡ records.old.history.items }
 {
     let login = unit.logins.end();
     records.grants.push_reserved(Grant::Lapsed {
@@ -375,6 +387,8 @@ pub(crate) fn answer<S: Site>(
         unit.old.pending.items ≡ request ∷ rest → (S.state site.old).shared ≡ false →
         MayWriteAnswer (S.state site.old).client request.address → OnOk result
         (Stands (S.state site.new).client request.address unit.old.service.answer.items) }
+    ensures rows { KeepsLastRow (row_in unit.old.service.stage)
+        records.old.history.items records.new.history.items }
 {
     records.make_room()?;
     unit.logins.make_room()?;
@@ -440,6 +454,9 @@ fn copy_answer<S: Site>(
         unit.old.pending.items ≡ request ∷ rest → (S.state site.old).shared ≡ false →
         MayWriteAnswer (S.state site.old).client request.address → OnOk result
         (Stands (S.state site.new).client request.address unit.old.service.answer.items) }
+    ensures history { records.new.history.items ≡ records.old.history.items }
+    ensures row { (outcome : Outcome) → unit.new.service.stage ≡ Stage.Entry outcome →
+        row_in unit.new.service.stage ≡ row_in unit.old.service.stage }
 {
     let Stage::Answer(outcome) = unit.service.stage else {
         return Ok(());
@@ -494,6 +511,7 @@ fn deliver<S: Site>(unit: &mut Unit, site: &mut S, outcome: Outcome) -> Result<P
     ensures laid { IfOk result (λ progress. progress ≡ Progress.Done → (request : Request) →
         (rest : List Request) → unit.old.pending.items ≡ request ∷ rest →
         Stands (S.state site.new).client request.address unit.old.service.answer.items) }
+    ensures row { row_in unit.new.service.stage ≡ row_in unit.old.service.stage }
 {
     let Some(request) = unit.pending.front() else {
         return Ok(Progress::Busy);
@@ -550,6 +568,8 @@ fn put_answer<S: Site>(unit: &mut Unit, site: &mut S, records: &mut Records, out
         records.old.grants.items records.new.grants.items outcome
         (srp_entry (length unit.old.service.answer.items) request.tag) }
     ensures client { (S.state site.new).client ≡ (S.state site.old).client }
+    ensures rows { KeepsLastRow (row_in (Stage.Entry outcome))
+        records.old.history.items records.new.history.items }
 {
     let Some(request) = unit.pending.front() else {
         return;
@@ -614,6 +634,8 @@ pub(crate) fn put_kept<S: Site>(
         (ledger_of unit.new (S.state site.new) records.new) }
     ensures unkept { unit.old.line.kept ≡ None →
         OnOk result (records.new.grants.items ≡ records.old.grants.items) }
+    ensures unkept_rows { unit.old.line.kept ≡ None →
+        records.new.history.items ≡ records.old.history.items }
 {
     let Some(kept) = unit.line.kept else {
         return Ok(Next::Entry);

@@ -17,6 +17,7 @@ ghost use Rattle.block_server.specs.Turns.{IfQuiet, StaysMoved, under_way};
 ghost use Rattle.block_server.specs.Waits.{AsNext, EndsIntake, FindsNothing, MeetsUse, StaysAgreed};
 ghost use Rattle.block_server.specs.Serving.{AnswersOnceBy, AnswersOnceIf, AsNone, desk_of};
 ghost use Rattle.block_server.specs.LoginAnswers.{login_answers};
+ghost use Rattle.block_server.specs.RowsOn.{KeepsIdleRows};
 ghost use Rattle.block_server.specs.Receipts.{LinesMore, MayTake, Receipt, TakesEntry, TakesIn, is_ended, standing_of};
 ghost use Rattle.block_server.specs.SiteState.{SiteState};
 ghost use Rattle.block_server.specs.Books.{books_at, books_of};
@@ -138,6 +139,8 @@ pub(crate) fn take_in<S: Site>(
         (reach_of (S.state site.old)) (reach_of (S.state site.new))
         records.old.grants.items records.new.grants.items words ×
         HasHeardAll unit.new (S.state site.new).queue) }
+    ensures rows { KeepsIdleRows unit.old.service.stage unit.new.service.stage
+        records.old.history.items records.new.history.items }
 {
     let next = receive_waiting(unit, site, records)?;
     if next != Next::Entry {
@@ -196,6 +199,8 @@ fn receive_waiting<S: Site>(
         (ledger_of unit.new (S.state site.new) records.new) }
     ensures lines { unit.old.waiting ≡ None →
         OnOk result (records.new.grants.items ≡ records.old.grants.items) }
+    ensures rows { KeepsIdleRows unit.old.service.stage unit.new.service.stage
+        records.old.history.items records.new.history.items }
 {
     let Some(arrival) = unit.waiting else {
         return Ok(Next::Entry);
@@ -276,6 +281,8 @@ fn take_one<S: Site>(unit: &mut Unit, site: &mut S, records: &mut Records) -> Re
         IfOk result (HearsFirst S.link_shared unit.old unit.new
         (reach_of (S.state site.old)) (reach_of (S.state site.new))
         records.old.grants.items records.new.grants.items words) }
+    ensures rows { KeepsIdleRows unit.old.service.stage unit.new.service.stage
+        records.old.history.items records.new.history.items }
 {
     site.reserve(2)?;
     let PollAnswer::Got { number, entry } = site.poll() else {
@@ -351,6 +358,8 @@ fn take_command<S: Site>(
         IsReceivedAs unit.old unit.new
         (reach_of (S.state site.old)) (reach_of (S.state site.new))
         records.old.grants.items records.new.grants.items arrival.number address bytes iu) }
+    ensures rows { KeepsIdleRows unit.old.service.stage unit.new.service.stage
+        records.old.history.items records.new.history.items }
 {
     match arrival.entry.format() {
         SRP => {
@@ -410,6 +419,8 @@ fn receive<S: Site>(
         IsReceivedAs unit.old unit.new
         (reach_of (S.state site.old)) (reach_of (S.state site.new))
         records.old.grants.items records.new.grants.items arrival.number address bytes iu) }
+    ensures rows { KeepsIdleRows unit.old.service.stage unit.new.service.stage
+        records.old.history.items records.new.history.items }
 {
     let session = site.session();
     if !unit.line.is_up() {
@@ -477,6 +488,8 @@ fn judge(
         (result ≡ Next.Entry) × IsAccepted unit.old unit.new
         records.old.grants.items records.new.grants.items
         arrival.number (iu_address arrival.entry) bytes.now iu }
+    ensures rows { KeepsIdleRows unit.old.service.stage unit.new.service.stage
+        records.old.history.items records.new.history.items }
 {
     bytes_spell_one();
     match judge_unit(&mut unit.logins, bytes) {

@@ -8,6 +8,7 @@ mod cursor;
 mod data_pieces;
 mod disk;
 mod fetching;
+mod handing;
 mod intake;
 mod line;
 mod logins;

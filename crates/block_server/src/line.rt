@@ -48,6 +48,7 @@ impl Line {
     /// The queue is not registered.
     pub(crate) fn new() -> Line
         ensures handshake { result.handshake ≡ Down }
+        ensures closing { result.closing ≡ false }
         ensures kept { result.kept ≡ None }
     {
         Line {

@@ -1,9 +1,9 @@
 // A server: its units, the disk that they serve, and what they keep for good.
-ghost use Rattle.block_server.specs.Talk.{IsTurnReady, UnitTalksOn, Word, reach};
+ghost use Rattle.block_server.specs.Talk.{AreNewUnits, IsNewThere, IsTurnReady, UnitOpensOn, UnitTalksOn, Word, reach};
 ghost use Rattle.std.specs.Prelude.{◌≡◌, ◌≢◌, ◌<◌, ◌≤◌, ◌++◌, ℕ, Bool, List, [], false, IfErr, IfOk, IfSome, IsSome, OnOk, Some, slice_get, vec_len};
 ghost use Rattle.rdma_copy.specs.Copies.{side_of};
 ghost use Rattle.tce_window.specs.Port.{Later};
-ghost use Rattle.block_server.specs.Advances.{CopiesMore, Goes, KeepsFreed, StayNamed};
+ghost use Rattle.block_server.specs.Advances.{CopiesMore, Goes, KeepsFreed, PutsNow, StayNamed};
 ghost use Rattle.block_server.specs.Cargo.{AreIdle, HasRuns};
 ghost use Rattle.block_server.specs.Causes.{Told, anything, told_to};
 ghost use Rattle.block_server.specs.Dealt.{HasDealt, KnowsSends};
@@ -21,6 +21,7 @@ ghost use Rattle.block_server.specs.Refusals.{AnswersInOrder, HasExplained, Expl
 ghost use Rattle.block_server.specs.Resting.{RestsAt};
 ghost use Rattle.block_server.specs.Asked.{AskInOrder, AskedAt};
 ghost use Rattle.block_server.specs.Rejecting.{LinesTellLogin};
+ghost use Rattle.block_server.specs.RowsOn.{RowsOn};
 ghost use Rattle.block_server.specs.Standing.{LeavesOn, stood};
 ghost use Rattle.block_server.specs.Turns.{IsStill, way_of};
 ghost use Rattle.block_server.specs.SiteState.{AreReady};
@@ -97,6 +98,7 @@ impl<B: Blocks> Server<B> {
         ensures unanswered { IfOk result (λ server. OweNone server.units.items) }
         ensures idle { IfOk result (λ server. AreIdle server.units.items) }
         ensures unrefused { IfOk result (λ server. ExplainNone server.units.items) }
+        ensures made { IfOk result (λ server. AreNewUnits server.units.items) }
     {
         let Ok(units) = make_units(alloc, partition, grant, units) else {
             return Err(image);
@@ -136,6 +138,7 @@ impl<B: Blocks> Server<B> {
             ((R.state client.old).values e) ((R.state client.new).values e) }
         ensures partner { C.is_shared ≡ false → (C.state crq.new).counts.partner_session ≡
             (C.state crq.old).counts.partner_session }
+        ensures sessions { C.is_shared ≡ false → PutsNow (C.state crq.old) (C.state crq.new) }
         ensures copies { CopiesMore (O.state own.new) (R.state client.new)
             self.old.copies.items self.new.copies.items }
         ensures answers { ∥ AnswersItsRows (O.state own.old).place.unit
@@ -273,6 +276,18 @@ impl<B: Blocks> Server<B> {
             IsTurnReady u (reach (C.state crq.old) (R.state client.old) R.is_shared)
             C.is_shared words → OnOk result (LeavesOn u (C.state crq.old) words
             (C.state crq.new) (R.state client.new)) }
+        ensures rows { (words : List Word) → (u : UnitValue) →
+            slice_get self.old.units.items unit ≡ Some u →
+            IsTurnReady u (reach (C.state crq.old) (R.state client.old) R.is_shared)
+            C.is_shared words → OnOk result (RowsOn u (C.state crq.old) words
+            self.old.records.history.items self.new.records.history.items) }
+        ensures opens { (u : UnitValue) → slice_get self.old.units.items unit ≡ Some u →
+            IsNewThere u (reach (C.state crq.old) (R.state client.old) R.is_shared)
+            C.is_shared → OnOk result (UnitOpensOn self.new.units.items unit u
+            (reach (C.state crq.old) (R.state client.old) R.is_shared)
+            (reach (C.state crq.new) (R.state client.new) R.is_shared)
+            self.old.records.grants.items self.new.records.grants.items
+            self.old.records.history.items self.new.records.history.items) }
     {
         let id = UnitId {
             partition: self.partition,
@@ -340,6 +355,7 @@ fn make_units(alloc: Global, partition: u8, grant: u8, count: u8) -> Result<Vec<
     ensures unanswered { IfOk result (λ units. OweNone units.items) }
     ensures idle { IfOk result (λ units. AreIdle units.items) }
     ensures unrefused { IfOk result (λ units. ExplainNone units.items) }
+    ensures made { IfOk result (λ units. AreNewUnits units.items) }
 {
     let mut units = Vec::new(alloc);
     for unit in 0..count {

@@ -1,20 +1,19 @@
 // The service of the oldest request: what it asks is done, and then it is answered.
 ghost use Rattle.block_server.specs.declared.request.Order.{Order as Asked};
 ghost use Rattle.block_server.specs.Talk.{IsServable, ServesFirst, StaysKnown, SuitsStage, reach_of};
-ghost use Rattle.block_server.specs.Cargo.{AreShown, HasTag, IsAccounted, IsFetchedAll, IsSentAll, KeepsCargo, Sight, cargo_at, cargo_of, command_of, data_bytes, is_loaded, pages_of, seen};
+ghost use Rattle.block_server.specs.Cargo.{AreShown, IsAccounted, IsFetchedAll, KeepsCargo, Sight, cargo_at, cargo_of, command_of, data_bytes, is_loaded, pages_of, seen};
 ghost use Rattle.srp_desc.specs.declared.pieces.TheConstants.{MAX_DATA_LEN};
-ghost use Rattle.block_server.specs.Parts.{IsPlacedAt};
-ghost use Rattle.std.specs.Prelude.{◌≡◌, ◌≢◌, ◌⊎◌, ◌∷◌, ◌<◌, ◌≤◌, ℕ, Bool, List, Option, Some, None, [], IfOk, IfSome, OnOk, false, true, length};
+ghost use Rattle.std.specs.Prelude.{◌≡◌, ◌≢◌, ◌⊎◌, ◌∷◌, ◌<◌, ◌≤◌, ℕ, Bool, List, Option, Some, None, [], IfSome, OnOk, false, true, length};
 ghost use Rattle.block_server.specs.Advances.{Advances};
-ghost use Rattle.block_server.specs.Causes.{IsPartOf, RefusesData, RefusesIn, Told, told_to};
+ghost use Rattle.block_server.specs.Causes.{Told, told_to};
 ghost use Rattle.block_server.specs.Books.{books_at, books_of};
 ghost use Rattle.block_server.specs.Ends.{IsGrantable, IsRejectedFor, IsRejection};
-ghost use Rattle.block_server.specs.Fetched.{IfDone, IfRefused, KnowsPieces};
+ghost use Rattle.block_server.specs.Fetched.{KnowsPieces};
 ghost use Rattle.block_server.specs.Granting.{LoginState, login_state};
 ghost use Rattle.block_server.specs.Judged.{Ahead, Books, IsAtStage, IsFor, Keeps, ServesOne, has_row, in_service, is_login};
 ghost use Rattle.block_server.specs.Judges.{Judges};
 ghost use Rattle.block_server.specs.Moves.{Passes};
-ghost use Rattle.block_server.specs.Owed.{KeepsAnswersBy, MovesRow, row_states, owing_of, row_in};
+ghost use Rattle.block_server.specs.Owed.{KeepsAnswersBy, MovesRow, owing_of, row_in};
 ghost use Rattle.block_server.specs.Receipts.{TakesIn, standing_of};
 ghost use Rattle.block_server.specs.Orders.{IsCauseOf, IsCodeOf};
 ghost use Rattle.block_server.specs.Standing.{HasAnswer, LeavesFirst, stood};
@@ -22,12 +21,11 @@ ghost use Rattle.tce_window.specs.PortState.{PortState};
 ghost use Rattle.block_server.specs.Ranges.{IsDataIn, LaysIn, MayWrite, client_known};
 ghost use Rattle.block_server.specs.Records.{AddsRow};
 ghost use Rattle.block_server.specs.Responses.{GrantsLogin};
+ghost use Rattle.block_server.specs.RowsOn.{AddsFor, HasLastRow};
 ghost use Rattle.block_server.specs.Refusals.{ExplainsOn, ledger_of};
 ghost use Rattle.block_server.specs.Serving.{AnswersOnce, AnswersOnceIf, AnswersOnceOn, IsServing, desk_at, desk_of, held, terms_of};
-ghost use Rattle.block_server.specs.Heard.{TellsAll, heard_between};
-ghost use Rattle.tce_window.specs.declared.answers.Right.TheVariants.{Write};
-ghost use Rattle.block_server.specs.Entries.{is_response_len};
-ghost use Rattle.block_server.specs.Stage.{how_far, is_answered, is_before_step, is_data_in, is_data_out, is_entry, is_given};
+ghost use Rattle.block_server.specs.Heard.{TellsAll};
+ghost use Rattle.block_server.specs.Stage.{how_far, is_answered, is_before_step, is_data_out, is_entry, is_given};
 ghost use Rattle.block_server.specs.Steps.{ComesOn, OtherStage};
 ghost use Rattle.block_server.specs.Waits.{IsHeldUp, IsPending, MeetsUse, StaysAgreed};
 ghost use Rattle.crq_session.specs.EndState.{EndState};
@@ -35,21 +33,19 @@ ghost use Rattle.vio_num.specs.declared.history.Served.{Served};
 ghost use Rattle.block_server.specs.Turns.{IfQuiet, under_way};
 
 use crate::answering::{answer, log_out};
-use crate::answers::{login_granted, login_rejected, task_code, total_len, with_code, with_status};
+use crate::answers::{login_granted, login_rejected, task_code, with_code};
 use crate::cursor::Cursor;
 use crate::disk::Disk;
 use crate::fetching::{Progress, fetch};
+use crate::handing::hand_over;
 use crate::logins::Logins;
 use crate::records::{Records, filled};
 use crate::request::{Order, Request};
 use crate::service::{Outcome, Service, Stage};
-use crate::site::{Halt, Site};
+use crate::site::Site;
 use crate::unit::Unit;
-use block_disk::ScsiReply;
 use srp_desc::named_pieces_sum_up;
-use srp_iu::{
-    Cmd, LoginReq, ResponseCode, UNABLE_TO_ESTABLISH_CHANNEL, bytes_spell_one, login_fault,
-};
+use srp_iu::{Cmd, LoginReq, ResponseCode, UNABLE_TO_ESTABLISH_CHANNEL, login_fault};
 use vio_io::Blocks;
 use vio_num::{Bytes, NoMemory, UnitId};
 
@@ -123,6 +119,12 @@ pub(crate) fn serve<S: Site, B: Blocks>(
         IsServable unit.old (reach_of (S.state site.old)) S.link_shared request rest →
         request.order ≢ Order.Logout → OnOk result (LeavesFirst unit.old.logins request
         (S.state site.new).queue (S.state site.new).client) }
+    ensures rows { (request : Request) → (rest : List Request) →
+        IsServable unit.old (reach_of (S.state site.old)) S.link_shared request rest →
+        OnOk result (AddsFor unit.old.id request
+        records.old.history.items records.new.history.items) }
+    ensures no_row { unit.old.pending.items ≡ [] →
+        records.new.history.items ≡ records.old.history.items }
 {
     let Some(request) = unit.pending.front() else {
         return Ok(());
@@ -217,8 +219,8 @@ fn prepare<S: Site, B: Blocks>(
         (seen (command_of request.now.order) (S.state site.new)) records.new.history.items) }
     ensures suits { SuitsStage logins.now.current request.now.order service.old.stage →
         OnOk result (SuitsStage logins.now.current request.now.order service.new.stage) }
-    ensures made { HasAnswer logins.now.granted request.now service.old →
-        OnOk result (HasAnswer logins.now.granted request.now service.new) }
+    ensures made { HasAnswer (login_state logins.now) request.now service.old →
+        OnOk result (HasAnswer (login_state logins.now) request.now service.new) }
     ensures wrote { (told : Told → Bool) → TellsAll told id (S.state site.old) (S.state site.new) →
         (rest : List Request) → IsServing (terms_of told disk.old.count)
         (desk_at id (login_state logins.now) service.old None (request.now ∷ rest))
@@ -228,6 +230,8 @@ fn prepare<S: Site, B: Blocks>(
         (S.state site.old).shared ≡ false → service.old.stage ≡ Stage.Start →
         LaysIn (IsDataIn (stood client) request.now.order)
         (client_known (S.state site.old)) (client_known (S.state site.new)) }
+    ensures rows { row_in service.old.stage ≡ None → OnOk result (HasLastRow id request.now
+        records.old.history.items (row_in service.new.stage) records.new.history.items) }
 {
     match &request.order {
         Order::Command(command) => {
@@ -288,7 +292,7 @@ fn judge_login(
     ensures suits { OnOk result
         (SuitsStage logins.now.current (Order.Login login.now) service.new.stage) }
     ensures made { (request : Request) → request.order ≡ Order.Login login.now →
-        OnOk result (HasAnswer logins.now.granted request service.new) }
+        OnOk result (HasAnswer (login_state logins.now) request service.new) }
 {
     match login_refusal(logins.current(), login) {
         Some(reason) => service.set_answer(&login_rejected(login, reason), Outcome::Rejected),
@@ -342,7 +346,7 @@ fn add_code(
         (cargo_at id service.new shown records.new.history.items) }
     ensures suits { (current : ℕ) → SuitsStage current request.now.order service.old.stage →
         OnOk result (SuitsStage current request.now.order service.new.stage) }
-    ensures made { (granted : ℕ) → OnOk result (HasAnswer granted request.now service.new) }
+    ensures made { (on : LoginState) → OnOk result (HasAnswer on request.now service.new) }
 {
     let blank = records.new_row(id, session, request)?;
     let row = records.history.len();
@@ -394,8 +398,8 @@ fn serve_command<S: Site, B: Blocks>(
         (seen (command_of request.now.order) (S.state site.new)) records.new.history.items) }
     ensures suits { (current : ℕ) → SuitsStage current request.now.order service.old.stage →
         OnOk result (SuitsStage current request.now.order service.new.stage) }
-    ensures made { (granted : ℕ) → HasAnswer granted request.now service.old →
-        OnOk result (HasAnswer granted request.now service.new) }
+    ensures made { (on : LoginState) → HasAnswer on request.now service.old →
+        OnOk result (HasAnswer on request.now service.new) }
     ensures wrote { (told : Told → Bool) → TellsAll told id (S.state site.old) (S.state site.new) →
         (on : LoginState) → (rest : List Request) → IsServing (terms_of told disk.old.count)
         (desk_at id on service.old None (request.now ∷ rest))
@@ -405,6 +409,8 @@ fn serve_command<S: Site, B: Blocks>(
         (S.state site.old).shared ≡ false → service.old.stage ≡ Stage.Start →
         LaysIn (IsDataIn (stood client) request.now.order)
         (client_known (S.state site.old)) (client_known (S.state site.new)) }
+    ensures rows { row_in service.old.stage ≡ None → OnOk result (HasLastRow id request.now
+        records.old.history.items (row_in service.new.stage) records.new.history.items) }
 {
     run_step(service, id, request, command, site, records, disk)?;
     store(service, request, site)?;
@@ -454,12 +460,14 @@ fn run_step<S: Site, B: Blocks>(
         records.new.history.items) }
     ensures suits { (current : ℕ) → SuitsStage current request.now.order service.old.stage →
         OnOk result (SuitsStage current request.now.order service.new.stage) }
-    ensures made { (granted : ℕ) → HasAnswer granted request.now service.old →
-        OnOk result (HasAnswer granted request.now service.new) }
+    ensures made { (on : LoginState) → HasAnswer on request.now service.old →
+        OnOk result (HasAnswer on request.now service.new) }
     ensures known { client_known (S.state site.new) ≡ client_known (S.state site.old) }
     ensures stood { (client : PortState) → StaysKnown client (S.state site.old).client →
         (S.state site.old).shared ≡ false → KnowsPieces (stood client) command.now service.old →
         OnOk result (KnowsPieces (stood client) command.now service.new) }
+    ensures rows { row_in service.old.stage ≡ None → OnOk result (HasLastRow id request.now
+        records.old.history.items (row_in service.new.stage) records.new.history.items) }
 {
     if !service.stage.is_before_step() {
         return Ok(());
@@ -501,8 +509,8 @@ fn store<S: Site>(service: &mut Service, request: &Request, site: &mut S) -> Res
     ensures suits { (current : ℕ) → (order : Asked) →
         SuitsStage current order service.old.stage →
         OnOk result (SuitsStage current order service.new.stage) }
-    ensures made { (granted : ℕ) → HasAnswer granted request.now service.old →
-        OnOk result (HasAnswer granted request.now service.new) }
+    ensures made { (on : LoginState) → HasAnswer on request.now service.old →
+        OnOk result (HasAnswer on request.now service.new) }
     ensures known { client_known (S.state site.new) ≡ client_known (S.state site.old) }
     ensures stood { (command : Cmd) → (client : PortState) → KnowsPieces (stood client) command
         service.old → OnOk result (KnowsPieces (stood client) command service.new) }
@@ -516,63 +524,6 @@ fn store<S: Site>(service: &mut Service, request: &Request, site: &mut S) -> Res
         };
     }
     Ok(())
-}
-
-// Copies data-in to the client, if that is to be done, and writes the answer.
-fn hand_over<S: Site>(
-    service: &mut Service,
-    request: &Request,
-    command: &Cmd,
-    site: &mut S,
-    records: &mut Records,
-) -> Result<(), NoMemory>
-    requires asked { request.now.order ≡ Order.Command command.now }
-    ensures entry { is_entry service.old.stage ≡ true →
-        service.new.stage ≡ service.old.stage }
-    ensures once { (id : UnitId) → (told : Told → Bool) →
-        TellsAll told id (S.state site.old) (S.state site.new) →
-        (size : ℕ) → (now : Option (List (List ℕ))) →
-        (on : LoginState) → (rest : List Request) →
-        AnswersOnceOn (held told size now) (held told size now)
-        (desk_at id on service.old None (request.now ∷ rest))
-        (desk_at id on service.new None (request.now ∷ rest))
-        (S.state site.old).queue (S.state site.new).queue records.old records.new }
-    ensures went { OnOk result (is_before_step service.old.stage ≡ false →
-        is_given service.old.stage ≡ false → is_answered service.new.stage ≡ true ⊎
-        MeetsUse (S.state site.old) (S.state site.new)) }
-    ensures queue { (S.state site.new).queue ≡ (S.state site.old).queue }
-    ensures advances { Advances (S.state site.old) (S.state site.new) }
-    ensures passes { Passes (S.state site.old) (S.state site.new) }
-    ensures grants { records.new.grants.items ≡ records.old.grants.items }
-    ensures books { (id : UnitId) → (session : ℕ) → ServesOne id session request.now
-        service.old.stage service.new.stage
-        records.old.history.items records.new.history.items }
-    ensures row { row_in service.new.stage ≡ row_in service.old.stage }
-    ensures states { row_states records.new.history.items ≡ row_states records.old.history.items }
-    ensures cargo { (id : UnitId) → (told : Told → Bool) → (asked : Bool) →
-        TellsAll told id (S.state site.old) (S.state site.new) → (size : ℕ) →
-        (on : LoginState) → (rest : List Request) → IsServing (terms_of told size)
-        (desk_at id on service.old None (request.now ∷ rest))
-        records.old.history.items →
-        IsAccounted told asked (cargo_at id service.old (seen (Some command.now) (S.state site.old))
-        records.old.history.items) →
-        IsAccounted told asked (cargo_at id service.new (seen (Some command.now) (S.state site.new))
-        records.new.history.items) }
-    ensures suits { (current : ℕ) → SuitsStage current request.now.order service.old.stage →
-        OnOk result (SuitsStage current request.now.order service.new.stage) }
-    ensures made { (granted : ℕ) → HasAnswer granted request.now service.old →
-        OnOk result (HasAnswer granted request.now service.new) }
-    ensures wrote { is_data_in service.old.stage ≡ true →
-        LaysIn (IsPartOf service.old.inn.list.items)
-        (client_known (S.state site.old)) (client_known (S.state site.new)) }
-    ensures unwritten { is_data_in service.old.stage ≡ false →
-        client_known (S.state site.new) ≡ client_known (S.state site.old) }
-{
-    let Stage::DataIn { row, reply, cursor } = service.stage else {
-        return Ok(());
-    };
-    let progress = deliver_data(service, site, request.tag, row, reply, cursor)?;
-    end_command(service, records, request, command, progress)
 }
 
 // Makes the disk step, and gives the command its row.
@@ -612,11 +563,13 @@ fn make_step<S: Site, B: Blocks>(
         records.new.history.items) }
     ensures suits { (current : ℕ) → SuitsStage current request.now.order service.old.stage →
         OnOk result (SuitsStage current request.now.order service.new.stage) }
-    ensures made { (granted : ℕ) → HasAnswer granted request.now service.old →
-        OnOk result (HasAnswer granted request.now service.new) }
+    ensures made { (on : LoginState) → HasAnswer on request.now service.old →
+        OnOk result (HasAnswer on request.now service.new) }
     ensures known { client_known (S.state site.new) ≡ client_known (S.state site.old) }
     ensures stood { (client : PortState) → KnowsPieces (stood client) command.now service.old →
         OnOk result (KnowsPieces (stood client) command.now service.new) }
+    ensures rows { row_in service.old.stage ≡ None → OnOk result (HasLastRow id request.now
+        records.old.history.items (row_in service.new.stage) records.new.history.items) }
 {
     let Stage::DataOut(_) = service.stage else {
         return Ok(());
@@ -653,147 +606,4 @@ fn read_out<S: Site>(site: &mut S, room: Vec<u8>) -> Vec<u8>
     let mut out = room;
     site.read_data(&mut out);
     out
-}
-
-// Copies the data-in that are left from a place on to the client.
-fn deliver_data<S: Site>(
-    service: &mut Service,
-    site: &mut S,
-    tag: u64,
-    row: usize,
-    reply: ScsiReply,
-    start: Cursor,
-) -> Result<Progress, NoMemory>
-    requires stage { service.old.stage ≡ Stage.DataIn row reply start }
-    ensures stage { (cursor : Cursor) × (service.new.stage ≡ Stage.DataIn row reply cursor) }
-    ensures answer { service.new.answer.items ≡ service.old.answer.items }
-    ensures given { service.new.given.items ≡ service.old.given.items }
-    ensures out { service.new.out ≡ service.old.out }
-    ensures inn { service.new.inn ≡ service.old.inn }
-    ensures some { IfRefused result (0 < length service.new.given.items) }
-    ensures refused { IfRefused result (RefusesData
-        (heard_between (S.state site.old) (S.state site.new)) Write service.old.inn.list.items) }
-    ensures busy { IfOk result (λ progress. progress ≡ Progress.Busy →
-        MeetsUse (S.state site.old) (S.state site.new)) }
-    ensures queue { (S.state site.new).queue ≡ (S.state site.old).queue }
-    ensures advances { Advances (S.state site.old) (S.state site.new) }
-    ensures passes { Passes (S.state site.old) (S.state site.new) }
-    ensures cargo { (id : UnitId) → (told : Told → Bool) → (asked : Bool) →
-        TellsAll told id (S.state site.old) (S.state site.new) → (rows : List Served) →
-        HasTag rows row tag → (first : Option Cmd) →
-        IsAccounted told asked (cargo_at id service.old (seen first (S.state site.old)) rows) →
-        IsAccounted told asked (cargo_at id service.new (seen first (S.state site.new)) rows) }
-    ensures all { IsPlacedAt service.old.inn.list.items start →
-        IfDone result (IsSentAll service.new) }
-    ensures wrote { LaysIn (IsPartOf service.old.inn.list.items)
-        (client_known (S.state site.old)) (client_known (S.state site.new)) }
-{
-    let total = service.given.len() as u32;
-    let mut cursor = start;
-    while let Some(part) = cursor.next(service.inn.as_slice(), total) {
-        let Some(address) = part.address else {
-            return Ok(Progress::Refused);
-        };
-        match site.deliver_data(part.at, address, part.len, tag) {
-            Ok(()) => {}
-            Err(Halt::Refused) => return Ok(Progress::Refused),
-            Err(Halt::Busy) => return Ok(Progress::Busy),
-            Err(Halt::NoMemory) => return Err(NoMemory),
-        }
-        cursor = part.end;
-        service.stage = Stage::DataIn { row, reply, cursor };
-    }
-    Ok(Progress::Done)
-}
-
-// Writes the answer to a command whose data-in were copied, or refused.
-fn end_command(
-    service: &mut Service,
-    records: &mut Records,
-    request: &Request,
-    command: &Cmd,
-    progress: Progress,
-) -> Result<(), NoMemory>
-    requires asked { request.now.order ≡ Order.Command command.now }
-    requires some { progress ≡ Progress.Refused → 0 < length service.old.given.items }
-    ensures once { (id : UnitId) → (on : LoginState) → (rest : List Request) →
-        (q : EndState) → AnswersOnceIf
-        (λ Hears. progress ≡ Progress.Refused → RefusesIn Hears command.now)
-        (desk_at id on service.old None (request.now ∷ rest))
-        (desk_at id on service.new None (request.now ∷ rest)) q q records.old records.new }
-    ensures went { OnOk result (is_data_in service.old.stage ≡ true → progress ≢ Progress.Busy →
-        is_answered service.new.stage ≡ true) }
-    ensures grants { records.new.grants.items ≡ records.old.grants.items }
-    ensures books { (id : UnitId) → (session : ℕ) → ServesOne id session request.now
-        service.old.stage service.new.stage
-        records.old.history.items records.new.history.items }
-    ensures row { row_in service.new.stage ≡ row_in service.old.stage }
-    ensures states { row_states records.new.history.items ≡ row_states records.old.history.items }
-    ensures cargo { (id : UnitId) → (shown : Sight) →
-        (progress ≡ Progress.Done → IsSentAll service.old) → KeepsCargo
-        (cargo_at id service.old shown records.old.history.items)
-        (cargo_at id service.new shown records.new.history.items) }
-    ensures suits { (current : ℕ) → SuitsStage current request.now.order service.old.stage →
-        OnOk result (SuitsStage current request.now.order service.new.stage) }
-    ensures made { (granted : ℕ) → HasAnswer granted request.now service.old →
-        OnOk result (HasAnswer granted request.now service.new) }
-{
-    let Stage::DataIn { row, reply, .. } = service.stage else {
-        return Ok(());
-    };
-    match progress {
-        Progress::Busy => Ok(()),
-        Progress::Refused => refuse_data(service, records, request, command),
-        Progress::Done => {
-            bytes_spell_one();
-            let (out, inn) = (total_len(&command.out), total_len(&command.inn));
-            service.set_answer(
-                &with_status(request.tag, &reply, out, inn),
-                Outcome::Served { row },
-            )
-        }
-    }
-}
-
-// Answers a command whose data-in the client's window refused, and leaves its row those that were copied.
-fn refuse_data(
-    service: &mut Service,
-    records: &mut Records,
-    request: &Request,
-    command: &Cmd,
-) -> Result<(), NoMemory>
-    requires asked { request.now.order ≡ Order.Command command.now }
-    requires some { 0 < length service.old.given.items }
-    ensures once { (id : UnitId) → (on : LoginState) → (rest : List Request) →
-        (q : EndState) → AnswersOnceIf
-        (λ Hears. RefusesIn Hears command.now)
-        (desk_at id on service.old None (request.now ∷ rest))
-        (desk_at id on service.new None (request.now ∷ rest)) q q records.old records.new }
-    ensures went { OnOk result (is_data_in service.old.stage ≡ true →
-        is_answered service.new.stage ≡ true) }
-    ensures grants { records.new.grants.items ≡ records.old.grants.items }
-    ensures books { (id : UnitId) → (session : ℕ) → ServesOne id session request.now
-        service.old.stage service.new.stage
-        records.old.history.items records.new.history.items }
-    ensures row { row_in service.new.stage ≡ row_in service.old.stage }
-    ensures states { row_states records.new.history.items ≡ row_states records.old.history.items }
-    ensures cargo { (id : UnitId) → (shown : Sight) → KeepsCargo
-        (cargo_at id service.old shown records.old.history.items)
-        (cargo_at id service.new shown records.new.history.items) }
-    ensures suits { (current : ℕ) → SuitsStage current request.now.order service.old.stage →
-        OnOk result (SuitsStage current request.now.order service.new.stage) }
-    ensures made { (granted : ℕ) → HasAnswer granted request.now service.old →
-        OnOk result (HasAnswer granted request.now service.new) }
-{
-    let Stage::DataIn { row, cursor, .. } = service.stage else {
-        return Ok(());
-    };
-    bytes_spell_one();
-    service.set_answer(
-        &with_code(request.tag, ResponseCode::FieldsInvalid),
-        Outcome::Served { row },
-    )?;
-    let inn = service.take_given(cursor.done());
-    records.fill(row, inn);
-    Ok(())
 }

@@ -1,5 +1,5 @@
 // The steps of a unit's turn.
-ghost use Rattle.block_server.specs.Talk.{IsTurnReady, Replies, TalksOn, Word, reach_of};
+ghost use Rattle.block_server.specs.Talk.{BeginsAlone, IsNewThere, IsTurnReady, OpensOn, OpensUnit, Replies, TalksOn, Word, reach_of};
 ghost use Rattle.crq_session.specs.Answered.{taken_now};
 ghost use Rattle.block_server.specs.Cargo.{IsAccounted, cargo_of};
 ghost use Rattle.std.specs.Prelude.{◌≡◌, ◌≢◌, ◌+◌, ◌<◌, ◌≤◌, None, Bool, IfOk, List, OnOk, [], false, true};
@@ -17,6 +17,7 @@ ghost use Rattle.block_server.specs.Ranges.{WritesOn, client_known};
 ghost use Rattle.block_server.specs.Ready.{Agrees, Idles, MeetsFull, MeetsSender};
 ghost use Rattle.block_server.specs.Refusals.{Explains, ExplainsOn, ledger_of};
 ghost use Rattle.block_server.specs.Resting.{IsResting};
+ghost use Rattle.block_server.specs.RowsOn.{RowsOn};
 ghost use Rattle.block_server.specs.Standing.{LeavesOn, stood};
 ghost use Rattle.block_server.specs.Steps.{ComesOn, NoStage, OtherStage};
 ghost use Rattle.block_server.specs.Turns.{IfQuiet, IsQuietTurn, IsStill, under_way};
@@ -105,6 +106,15 @@ pub(crate) fn turn<S: Site, B: Blocks>(
         IsTurnReady unit.old (reach_of (S.state site.old)) S.link_shared words →
         OnOk result (LeavesOn unit.old (S.state site.old).queue words
         (S.state site.new).queue (S.state site.new).client) }
+    ensures opens { IsNewThere unit.old (reach_of (S.state site.old)) S.link_shared →
+        OnOk result (OpensOn unit.old unit.new
+        (reach_of (S.state site.old)) (reach_of (S.state site.new))
+        records.old.grants.items records.new.grants.items
+        records.old.history.items records.new.history.items) }
+    ensures rows { (words : List Word) →
+        IsTurnReady unit.old (reach_of (S.state site.old)) S.link_shared words →
+        OnOk result (RowsOn unit.old (S.state site.old).queue words
+        records.old.history.items records.new.history.items) }
 {
     unit.moved = false;
     steps(unit, site, records, disk)?;
@@ -182,6 +192,15 @@ fn steps<S: Site, B: Blocks>(
         IsTurnReady unit.old (reach_of (S.state site.old)) S.link_shared words →
         OnOk result (LeavesOn unit.old (S.state site.old).queue words
         (S.state site.new).queue (S.state site.new).client) }
+    ensures opens { IsNewThere unit.old (reach_of (S.state site.old)) S.link_shared →
+        OnOk result (OpensOn unit.old unit.new
+        (reach_of (S.state site.old)) (reach_of (S.state site.new))
+        records.old.grants.items records.new.grants.items
+        records.old.history.items records.new.history.items) }
+    ensures rows { (words : List Word) →
+        IsTurnReady unit.old (reach_of (S.state site.old)) S.link_shared words →
+        OnOk result (RowsOn unit.old (S.state site.old).queue words
+        records.old.history.items records.new.history.items) }
 {
     if open_line(unit, site)? == Next::End {
         return Ok(());
@@ -235,6 +254,9 @@ fn open_line<S: Site>(unit: &mut Unit, site: &mut S) -> Result<Next, NoMemory>
         (S.state site.old).queue.kept ≡ None → OnOk result
         (Replies (S.state site.old).queue (S.state site.new).queue [] ×
         ((S.state site.new).client ≡ (S.state site.old).client)) }
+    ensures opens { IsNewThere unit.old (reach_of (S.state site.old)) S.link_shared →
+        IfOk result (λ next. (next ≡ Next.End) × OpensUnit unit.old unit.new
+        (reach_of (S.state site.old)) (reach_of (S.state site.new))) }
 {
     site.reserve(FIRST_CALLS)?;
     if push_event(unit, site) == Next::End {
@@ -282,6 +304,7 @@ fn push_event<S: Site>(unit: &mut Unit, site: &mut S) -> Next
     ensures idle { S.link_shared ≡ false → (S.state site.old).queue.kept ≡ None →
         Replies (S.state site.old).queue (S.state site.new).queue [] ×
         ((S.state site.new).client ≡ (S.state site.old).client) }
+    ensures event { (S.state site.old).queue.kept ≡ None → (S.state site.new).queue.kept ≡ None }
 {
     match site.push_event() {
         EventAnswer::Nothing => Next::Entry,
@@ -406,6 +429,8 @@ fn register<S: Site>(unit: &mut Unit, site: &mut S)
     ensures refuses { (records : Records) → Explains
         (ledger_of unit.old (S.state site.old) records)
         (ledger_of unit.new (S.state site.new) records) }
+    ensures opens { IsNewThere unit.old (reach_of (S.state site.old)) S.link_shared →
+        OpensUnit unit.old unit.new (reach_of (S.state site.old)) (reach_of (S.state site.new)) }
 {
     match site.register() {
         RegAnswer::Success => begin(unit, site),
@@ -441,6 +466,9 @@ fn begin<S: Site>(unit: &mut Unit, site: &mut S)
         taken_now (S.state site.old).queue ≡ [] → Explains
         (ledger_of unit.old (S.state site.old) records)
         (ledger_of unit.new (S.state site.new) records) }
+    ensures alone { S.link_shared ≡ false →
+        (S.state site.old).queue.place.partner_registered ≡ false → BeginsAlone
+        unit.old unit.new (reach_of (S.state site.old)) (reach_of (S.state site.new)) }
 {
     unit.moved = true;
     if let Some(initialize) = reply_of(unit.line.handshake.registered()) {

@@ -1,6 +1,7 @@
 // A server unit, between its turns.
 ghost use Rattle.std.specs.Prelude.{◌≡◌, ◌≤◌, None, [], false};
 ghost use Rattle.crq_session.specs.declared.handshake.Handshake.TheVariants.{Down};
+ghost use Rattle.block_server.specs.Talk.{IsNewUnit};
 ghost use Rattle.block_server.specs.declared.service.Stage.TheVariants.{Start};
 
 use crate::line::Line;
@@ -44,6 +45,7 @@ impl Unit {
         ensures current { result.logins.current ≡ 0 }
         ensures last { result.logins.last ≡ 0 }
         ensures taking { result.logins.taking ≡ false }
+        ensures made { IsNewUnit result }
     {
         Unit {
             id,

@@ -34,6 +34,8 @@ use Rattle.block_server.specs.Ranges.{IsAnswerRange}
 use Rattle.block_server.proofs.RangeLaws.{known_of, lays_none, lays_on, lays_same}
 use Rattle.std.proofs.Common.{inl, refl}
 use Rattle.block_server.proofs.Standing.{stands_same}
+use Rattle.block_server.proofs.LastRows.{last_at, last_on, last_same}
+use Rattle.block_server.specs.Judged.{row_in}
 use Rattle.block_server.proofs.answering.answer.Goals as goal
 
 pub returns-in_err-make_room-clause-once : goal.returns-in_err-make_room-clause-once
@@ -316,3 +318,23 @@ returns-in_default-clause-laid g c = λ request rest outcome at parts apart may.
     let later = may_later (g.S.Site.state c.args.site.now) (g.S.Site.state c.reserve.new.self) request.address apart c.reserve.ensures.advances may in
     let copied = c.in_ok-copy_answer.ensures.serves request rest outcome (inl at) parts (c.reserve.ensures.advances.shared ∙ apart) later in
     absurd (c.in_default.not-Entry outcome copied.stage)
+
+pub returns-in_err-make_room-clause-rows : goal.returns-in_err-make_room-clause-rows
+returns-in_err-make_room-clause-rows g c = last_same _ _ _ c.make_room.ensures.lists.history
+
+pub returns-in_err-make_room-2-clause-rows : goal.returns-in_err-make_room-2-clause-rows
+returns-in_err-make_room-2-clause-rows g c = last_same _ _ _ c.make_room.ensures.lists.history
+
+pub returns-in_err-reserve-clause-rows : goal.returns-in_err-reserve-clause-rows
+returns-in_err-reserve-clause-rows g c = last_same _ _ _ c.make_room.ensures.lists.history
+
+pub returns-in_err-copy_answer-clause-rows : goal.returns-in_err-copy_answer-clause-rows
+returns-in_err-copy_answer-clause-rows g c = last_same _ _ _ (c.copy_answer.ensures.history ∙ c.make_room.ensures.lists.history)
+
+pub returns-in_default-clause-rows : goal.returns-in_default-clause-rows
+returns-in_default-clause-rows g c = last_same _ _ _ (c.copy_answer.ensures.history ∙ c.make_room.ensures.lists.history)
+
+pub returns-in-Entry-clause-rows : goal.returns-in-Entry-clause-rows
+returns-in-Entry-clause-rows g c =
+    last_on _ _ _ _ (last_same _ _ _ (c.copy_answer.ensures.history ∙ c.make_room.ensures.lists.history))
+    (last_at _ _ _ _ (sym (ap row_in c.in-Entry.is) ∙ c.copy_answer.ensures.row c.in-Entry.outcome c.in-Entry.is) c.put_answer.ensures.rows)

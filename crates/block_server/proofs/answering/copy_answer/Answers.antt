@@ -218,3 +218,9 @@ returns-in-Busy-clause-laid g c = λ request rest outcome at parts alone may.
 pub returns-in-Refused-clause-laid : goal.returns-in-Refused-clause-laid
 returns-in-Refused-clause-laid g c = λ request rest outcome at parts alone may.
     absurd (not_refused (g.S.Site.state c.args.site.now) (g.S.Site.state c.deliver.new.site) _ rest request alone parts may (c.in_ok-deliver.ensures.refused c.in-Refused.is))
+
+pub returns-in_err-deliver-clause-row : goal.returns-in_err-deliver-clause-row
+returns-in_err-deliver-clause-row g c = λ outcome at. c.deliver.ensures.row
+
+pub returns-in-Busy-clause-row : goal.returns-in-Busy-clause-row
+returns-in-Busy-clause-row g c = λ outcome at. c.deliver.ensures.row

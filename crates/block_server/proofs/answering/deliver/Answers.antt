@@ -28,6 +28,7 @@ use Rattle.block_server.specs.Steps.{ToEntry}
 use Rattle.block_server.proofs.RangeLaws.{answer_laid, lays_none}
 use Rattle.block_server.proofs.Servicing.{answer_few, first_same}
 use Rattle.block_server.proofs.Standing.{stands_same}
+use Rattle.block_server.proofs.LastRows.{row_same}
 use Rattle.block_server.proofs.answering.deliver.Goals as goal
 
 pub returns-in_default-clause-once : goal.returns-in_default-clause-once
@@ -166,3 +167,6 @@ returns-in-Ok-clause-laid g c = λ is request rest parts.
     let same : c.deref.result.now ≡ c.args.unit.now.service.answer.items = search (rules, c.deref.ensures) in
     stands_same (g.S.Site.state c.deliver_unit.new.self).client _ c.in-Some.request.now request c.deref.result.now _ refl
     (first_same c.args.unit.now.pending.items c.in-Some.request.now request front.0 rest front.1 parts) same c.in-Ok.ensures.laid
+
+pub returns-in-Ok-clause-row : goal.returns-in-Ok-clause-row
+returns-in-Ok-clause-row g c = row_same c.args.outcome _ _ c.requires.stage refl

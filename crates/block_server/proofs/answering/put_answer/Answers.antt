@@ -42,6 +42,7 @@ use Rattle.std.proofs.Common.{◌≡◌, ◌++◌, ℕ, rules, subst}
 use Rattle.block_server.specs.Talk.{settled_lines}
 use Rattle.block_server.proofs.Listening.{full_no}
 use Rattle.block_server.proofs.Servicing.{no_front, puts_settled, puts_turned}
+use Rattle.block_server.proofs.LastRows.{settled_last}
 use Rattle.block_server.proofs.answering.put_answer.Goals as goal
 
 pub returns-in_default-clause-once : goal.returns-in_default-clause-once
@@ -225,3 +226,6 @@ returns-in-Dropped-clause-client g c = c.send.ensures.windows.client
 
 pub returns-in_default-send-clause-client : goal.returns-in_default-send-clause-client
 returns-in_default-send-clause-client g c = c.send.ensures.windows.client
+
+pub returns-in-Success-clause-rows : goal.returns-in-Success-clause-rows
+returns-in-Success-clause-rows g c = settled_last c.args.outcome _ _ _ c.settle.ensures.row

@@ -21,6 +21,7 @@ use Rattle.std.proofs.Common.{inl}
 use Rattle.block_server.proofs.Dealing.{accepted_how, ignored_none}
 use Rattle.block_server.proofs.Talking.{accepts_pushed, not_fatal, not_ignored}
 use Rattle.block_server.specs.Talk.{talk_of}
+use Rattle.block_server.proofs.LastRows.{ended_idle, idle_same}
 use Rattle.block_server.proofs.intake.judge.Goals as goal
 
 pub returns-in-Ignored-clause-once : goal.returns-in-Ignored-clause-once
@@ -125,3 +126,12 @@ pub returns-in-Fatal-clause-hears : goal.returns-in-Fatal-clause-hears
 returns-in-Fatal-clause-hears c = λ iu spelled may.
     absurd (not_fatal c.bytes_spell_one.ensures (talk_of c.args.unit.now) c.args.unit.now.logins c.judge_unit.new.logins _ iu c.judge_unit.result _ _ _
     (record { current = refl; taking = refl; outstanding = refl; granted = refl }) c.in-Fatal.is c.judge_unit.ensures.decides spelled may)
+
+pub returns-in-Ignored-clause-rows : goal.returns-in-Ignored-clause-rows
+returns-in-Ignored-clause-rows c = idle_same _ _ _ _ refl refl
+
+pub returns-in-Ok-clause-rows : goal.returns-in-Ok-clause-rows
+returns-in-Ok-clause-rows c = idle_same _ _ _ _ refl refl
+
+pub returns-in-Fatal-clause-rows : goal.returns-in-Fatal-clause-rows
+returns-in-Fatal-clause-rows c = ended_idle _ _ _ _ _ c.end_counted.ensures.row c.end_counted.ensures.stage

@@ -35,6 +35,7 @@ use Rattle.block_server.proofs.OwingCalls.{closing_ended}
 use Rattle.std.proofs.Common.{ℕ}
 use Rattle.std.proofs.Common.{inl, inr}
 use Rattle.block_server.proofs.Talking.{long_enough, not_denied, not_in_use, received_as}
+use Rattle.block_server.proofs.LastRows.{ended_idle, idle_same}
 use Rattle.block_server.proofs.intake.receive.Goals as goal
 
 pub returns-in-Ok-clause-once : goal.returns-in-Ok-clause-once
@@ -252,3 +253,21 @@ pub returns-in-Err-Busy-clause-hears : goal.returns-in-Err-Busy-clause-hears
 returns-in-Err-Busy-clause-hears g c = λ address bytes iu alone up may asked.
     let failed : IsErrOf c.fetch_unit.result halts.Busy = cc (c.in-Err-Busy.is, c.in-Err-Busy.field-0-is) in
     absurd (not_in_use (g.S.Site.state c.args.site.now) (g.S.Site.state c.fetch_unit.new.self) alone (c.fetch_unit.ensures.busy failed))
+
+pub returns-then-not-is_up-clause-rows : goal.returns-then-not-is_up-clause-rows
+returns-then-not-is_up-clause-rows g c = ended_idle _ _ _ _ _ c.end_session.ensures.row c.end_session.ensures.stage
+
+pub returns-then-len-eq0-clause-rows : goal.returns-then-len-eq0-clause-rows
+returns-then-len-eq0-clause-rows g c = ended_idle _ _ _ _ _ c.end_session-then-len-eq0.ensures.row c.end_session-then-len-eq0.ensures.stage
+
+pub returns-in-Ok-clause-rows : goal.returns-in-Ok-clause-rows
+returns-in-Ok-clause-rows g c = c.judge.ensures.rows
+
+pub returns-in-Err-Refused-clause-rows : goal.returns-in-Err-Refused-clause-rows
+returns-in-Err-Refused-clause-rows g c = ended_idle _ _ _ _ _ c.end_session-in-Err-Refused.ensures.row c.end_session-in-Err-Refused.ensures.stage
+
+pub returns-in-Err-Busy-clause-rows : goal.returns-in-Err-Busy-clause-rows
+returns-in-Err-Busy-clause-rows g c = idle_same _ _ _ _ refl refl
+
+pub returns-in-Err-NoMemory-clause-rows : goal.returns-in-Err-NoMemory-clause-rows
+returns-in-Err-NoMemory-clause-rows g c = idle_same _ _ _ _ refl refl

@@ -16,6 +16,7 @@ use Rattle.block_server.specs.LoginAnswers.{login_answers}
 use Rattle.block_server.proofs.ComingParts.{comes_none, comes_received}
 use Rattle.block_server.proofs.Quieting.{still_equal}
 use Rattle.block_server.specs.Steps.{NoStage}
+use Rattle.block_server.proofs.LastRows.{idle_same, idle_then}
 use Rattle.block_server.proofs.intake.receive_waiting.Goals as goal
 
 pub returns-in_default-clause-once : goal.returns-in_default-clause-once
@@ -93,3 +94,12 @@ returns-clause-comes g c =
     on_ok c.receive.result _ _
     (comes_received NoStage c.args.unit.now c.make_room.new.unit c.receive.new.unit _ _ (still_equal _ _ c.receive.ensures.queue) c.in-Some.arrival (search rules)
     c.make_room.ensures.way c.make_room.ensures.moved) c.receive.ensures.received
+
+pub returns-in_default-clause-rows : goal.returns-in_default-clause-rows
+returns-in_default-clause-rows g c = idle_same _ _ _ _ refl refl
+
+pub returns-in_err-make_room-clause-rows : goal.returns-in_err-make_room-clause-rows
+returns-in_err-make_room-clause-rows g c = idle_same _ _ _ _ (ap (λ (d : Desk). d.stage) c.make_room.ensures.desk) c.make_room.ensures.history
+
+pub returns-clause-rows : goal.returns-clause-rows
+returns-clause-rows g c = idle_then _ _ _ _ _ _ (idle_same _ _ _ _ (ap (λ (d : Desk). d.stage) c.make_room.ensures.desk) c.make_room.ensures.history) c.receive.ensures.rows

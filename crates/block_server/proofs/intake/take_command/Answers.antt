@@ -13,6 +13,8 @@ use Rattle.std.proofs.Common.{Some}
 use Rattle.std.proofs.Common.{inr}
 use Rattle.block_server.proofs.Listening.{not_asked}
 use Rattle.block_server.proofs.Talking.{received_from}
+use Rattle.block_server.proofs.LastRows.{idle_same}
+use Rattle.block_server.specs.declared.service.Service.{Service}
 use Rattle.block_server.proofs.intake.take_command.Goals as goal
 
 pub returns-in-2-clause-once : goal.returns-in-2-clause-once
@@ -115,3 +117,12 @@ returns-in-2-clause-hears g c = λ address bytes iu alone up may asked. absurd (
 
 pub returns-in_default-clause-hears : goal.returns-in_default-clause-hears
 returns-in_default-clause-hears g c = λ address bytes iu alone up may asked. absurd (not_asked _ _ _ _ _ asked (not_format c.args.arrival.entry (λ one. search rules)))
+
+pub returns-in-1-clause-rows : goal.returns-in-1-clause-rows
+returns-in-1-clause-rows g c = c.receive.ensures.rows
+
+pub returns-in-2-clause-rows : goal.returns-in-2-clause-rows
+returns-in-2-clause-rows g c = idle_same _ _ _ _ (ap (λ (s : Service). s.stage) c.put_reply.ensures.service) refl
+
+pub returns-in_default-clause-rows : goal.returns-in_default-clause-rows
+returns-in_default-clause-rows g c = idle_same _ _ _ _ refl refl

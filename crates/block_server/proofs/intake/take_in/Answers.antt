@@ -27,6 +27,7 @@ use Rattle.block_server.proofs.Listening.{ends_next, goes_next, hears_all, hears
 use Rattle.block_server.proofs.Taking.{waiting_stands}
 use Rattle.block_server.specs.Serving.{Desk}
 use Rattle.block_server.specs.Talk.{reach_of}
+use Rattle.block_server.proofs.LastRows.{idle_same, idle_then}
 use Rattle.block_server.proofs.intake.take_in.Goals as goal
 
 pub returns-in_err-next-clause-once : goal.returns-in_err-next-clause-once
@@ -57,6 +58,7 @@ loop-taken-init g c = record {
   rests = λ alone waiting emptied. as_before _ _ _ _ (c.in_ok-next.ensures.rests waiting).1 (c.in_ok-next.ensures.rests waiting).2;
   hears = λ words calm. hears_begin _ _ _ _ _ _ _ words (c.in_ok-next.ensures.rests calm.waiting).1 (ap reach_of (c.in_ok-next.ensures.rests calm.waiting).2) (c.in_ok-next.ensures.lines calm.waiting) calm;
   may = λ on. c.in_ok-next.ensures.goes_on on (search rules);
+  idle = c.receive_waiting.ensures.rows;
 }
 
 pub returns-in_err-make_room-clause-once : goal.returns-in_err-make_room-clause-once
@@ -118,6 +120,7 @@ loop-taken-preserved g c = record {
       (hears_next _ c.args.unit.now c.loop-taken.unit c.make_room.new.unit c.take_one.new.unit (reach_of (g.S.Site.state c.args.site.now)) (reach_of (g.S.Site.state c.loop-taken.site)) (reach_of (g.S.Site.state c.take_one.new.site)) _ _ _ _ words _ c.in_ok-next-2.next (c.loop-taken.invariant.hears words calm)
       c.make_room.ensures.talk (ap (λ (d : Desk). d.stage) c.make_room.ensures.desk) c.make_room.ensures.line (waiting_stands _ _ c.make_room.ensures.stands) c.make_room.ensures.grants c.in_ok-next-2.ensures.hears);
   may = λ on. c.in_ok-next-2.ensures.goes_on (may_stands _ _ c.make_room.ensures.stands (c.loop-taken.invariant.may on)) (search rules);
+  idle = idle_then _ _ _ _ _ _ (idle_then _ _ _ _ _ _ c.loop-taken.invariant.idle (idle_same _ _ _ _ (ap (λ (d : Desk). d.stage) c.make_room.ensures.desk) c.make_room.ensures.history)) c.take_one.ensures.rows;
 }
 
 pub returns-after-loop-taken-clause-once : goal.returns-after-loop-taken-clause-once
@@ -285,3 +288,24 @@ pub returns-else-len-lt-MOST_PENDING-clause-hears : goal.returns-else-len-lt-MOS
 returns-else-len-lt-MOST_PENDING-clause-hears g c = λ words calm few.
     let all = hears_all _ _ _ _ _ _ _ words c.loop-taken.taken c.slots-slots.result (c.loop-taken.invariant.hears words calm) few (c.slots-slots.ensures.slots ∙ ap (λ (s : SiteState). s.queue.place.own_slots) (c.in_ok-next.ensures.rests calm.waiting).2) (λ less short. search rules) in
     (refl, all.0, all.1)
+
+pub returns-in_err-next-clause-rows : goal.returns-in_err-next-clause-rows
+returns-in_err-next-clause-rows g c = c.receive_waiting.ensures.rows
+
+pub returns-then-ne-clause-rows : goal.returns-then-ne-clause-rows
+returns-then-ne-clause-rows g c = c.receive_waiting.ensures.rows
+
+pub returns-in_err-make_room-clause-rows : goal.returns-in_err-make_room-clause-rows
+returns-in_err-make_room-clause-rows g c = idle_then _ _ _ _ _ _ c.loop-taken.invariant.idle (idle_same _ _ _ _ (ap (λ (d : Desk). d.stage) c.make_room.ensures.desk) c.make_room.ensures.history)
+
+pub returns-in_err-next-2-clause-rows : goal.returns-in_err-next-2-clause-rows
+returns-in_err-next-2-clause-rows g c = idle_then _ _ _ _ _ _ (idle_then _ _ _ _ _ _ c.loop-taken.invariant.idle (idle_same _ _ _ _ (ap (λ (d : Desk). d.stage) c.make_room.ensures.desk) c.make_room.ensures.history)) c.take_one.ensures.rows
+
+pub returns-then-ne-2-clause-rows : goal.returns-then-ne-2-clause-rows
+returns-then-ne-2-clause-rows g c = idle_then _ _ _ _ _ _ (idle_then _ _ _ _ _ _ c.loop-taken.invariant.idle (idle_same _ _ _ _ (ap (λ (d : Desk). d.stage) c.make_room.ensures.desk) c.make_room.ensures.history)) c.take_one.ensures.rows
+
+pub returns-after-loop-taken-clause-rows : goal.returns-after-loop-taken-clause-rows
+returns-after-loop-taken-clause-rows g c = c.loop-taken.invariant.idle
+
+pub returns-else-len-lt-MOST_PENDING-clause-rows : goal.returns-else-len-lt-MOST_PENDING-clause-rows
+returns-else-len-lt-MOST_PENDING-clause-rows g c = c.loop-taken.invariant.idle

@@ -9,6 +9,7 @@ use Rattle.block_server.specs.Owed.{KeepsAnswers}
 use Rattle.block_server.specs.Receipts.{MayTake, TakesIn, is_ended, standing_of}
 use Rattle.block_server.specs.Refusals.{ExplainsBy, ledger_of}
 use Rattle.block_server.specs.Resting.{IsEmptied}
+use Rattle.block_server.specs.RowsOn.{KeepsIdleRows}
 use Rattle.block_server.specs.Serving.{AnswersOnceBy, desk_of}
 use Rattle.block_server.specs.Steps.{ComesOn, NoStage}
 use Rattle.block_server.specs.Turns.{IfQuiet}
@@ -36,6 +37,7 @@ invariant-loop-taken g l = record {
   hears : (words : List Word) → IsListening l.fn.unit (reach_of (g.S.Site.state l.fn.site)) g.S.Site.link_shared words
       → HearsSome g.S.Site.link_shared l.fn.unit l.unit (reach_of (g.S.Site.state l.fn.site)) (reach_of (g.S.Site.state l.site)) l.fn.records.grants.items l.records.grants.items words l.taken;
   may : is_ended l.fn.unit.line ≡ false → MayTake (standing_of l.unit);
+  idle : KeepsIdleRows l.fn.unit.service.stage l.unit.service.stage l.fn.records.history.items l.records.history.items;
 }
 
 abbrev pub decreases-loop-taken : goal.decreases-loop-taken

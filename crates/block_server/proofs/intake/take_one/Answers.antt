@@ -37,6 +37,8 @@ use Rattle.std.proofs.Common.{true}
 use Rattle.vio_num.specs.declared.entry.Kind.TheVariants.{Reserved, Unused}
 use Rattle.block_server.proofs.Listening.{came, hears_asked, hears_begun, hears_gone, hears_none, no_reply, no_word, said_none}
 use Rattle.block_server.specs.Talk.{reach_of}
+use Rattle.block_server.proofs.LastRows.{ended_idle, idle_same}
+use Rattle.block_server.specs.declared.service.Service.{Service}
 use Rattle.block_server.proofs.intake.take_one.Goals as goal
 
 pub returns-in_err-reserve-clause-once : goal.returns-in_err-reserve-clause-once
@@ -568,3 +570,27 @@ returns-in-Unused-clause-hears g c = λ words calm.
 pub returns-in-Reserved-clause-hears : goal.returns-in-Reserved-clause-hears
 returns-in-Reserved-clause-hears g c = λ words calm.
     absurd (no_word _ c.args.unit.now (reach_of (g.S.Site.state c.args.site.now)) (reach_of (g.S.Site.state c.poll.new.self)) c.in-Got.number c.in-Got.entry words Reserved calm (came _ _ (g.S.Site.state c.reserve.new.self).queue _ c.in-Got.number c.in-Got.entry calm.alone c.reserve.ensures.rest c.poll.ensures.rest c.in-Got.ensures.got) (search rules) (λ word. said_none word Reserved (inr refl)))
+
+pub returns-in_err-reserve-clause-rows : goal.returns-in_err-reserve-clause-rows
+returns-in_err-reserve-clause-rows g c = idle_same _ _ _ _ refl refl
+
+pub returns-in_default-clause-rows : goal.returns-in_default-clause-rows
+returns-in_default-clause-rows g c = idle_same _ _ _ _ refl refl
+
+pub returns-in-Command-clause-rows : goal.returns-in-Command-clause-rows
+returns-in-Command-clause-rows g c = c.take_command.ensures.rows
+
+pub returns-in-Some-clause-rows : goal.returns-in-Some-clause-rows
+returns-in-Some-clause-rows g c = idle_same _ _ _ _ (ap (λ (s : Service). s.stage) c.put_reply.ensures.service) refl
+
+pub returns-in-None-clause-rows : goal.returns-in-None-clause-rows
+returns-in-None-clause-rows g c = idle_same _ _ _ _ refl refl
+
+pub returns-in-Event-clause-rows : goal.returns-in-Event-clause-rows
+returns-in-Event-clause-rows g c = ended_idle _ _ _ _ _ c.lose_partner.ensures.row c.lose_partner.ensures.stage
+
+pub returns-in-Unused-clause-rows : goal.returns-in-Unused-clause-rows
+returns-in-Unused-clause-rows g c = idle_same _ _ _ _ refl refl
+
+pub returns-in-Reserved-clause-rows : goal.returns-in-Reserved-clause-rows
+returns-in-Reserved-clause-rows g c = idle_same _ _ _ _ refl refl

@@ -8,6 +8,7 @@ use Rattle.block_server.specs.Owed.{OweNone}
 use Rattle.block_server.specs.Receipts.{AwaitNone}
 use Rattle.block_server.specs.Refusals.{ExplainNone}
 use Rattle.block_server.specs.Serving.{Terms}
+use Rattle.block_server.specs.Talk.{AreNewUnits}
 use Rattle.block_server.specs.Units.{AreGranting, AreServing}
 use Rattle.block_server.proofs.server.make_units.Given as goal
 
@@ -21,5 +22,6 @@ invariant-loop-unit l = record {
   unanswered : OweNone l.units.items;
   idle : AreIdle l.units.items;
   unrefused : ExplainNone l.units.items;
+  made : AreNewUnits l.units.items;
   serving : (terms : Terms) → (rows : List Served) → AreServing terms l.partition l.units.items rows;
 }

@@ -15,6 +15,7 @@ use Rattle.block_server.proofs.Servicing.{some_apart}
 use Rattle.block_server.specs.declared.request.Order.TheVariants as orders
 use Rattle.block_server.proofs.Quieting.{on_ok}
 use Rattle.block_server.proofs.Standing.{answer_set}
+use Rattle.block_server.specs.Granting.{login_state}
 use Rattle.block_server.proofs.serving.judge_login.Goals as goal
 
 pub returns-in-Some-clause-once : goal.returns-in-Some-clause-once
@@ -79,12 +80,19 @@ returns-in-None-clause-suits c = on_ok c.set_answer-in-None.result _ _ (λ is. s
 pub returns-in-Some-clause-made : goal.returns-in-Some-clause-made
 returns-in-Some-clause-made c = λ request order.
     let same : c.deref.result.now ≡ c.login_rejected.result.items = search (rules, c.deref.ensures) in
-    answer_set c.args.logins.now.granted request Rejected _ _ c.deref.result.now c.set_answer.result c.set_answer.ensures.stage c.set_answer.ensures.answer
-    (c.args.login.now, c.in-Some.reason, order, subst (λ (list : List ℕ). RejectsLogin list c.args.login.now.tag c.in-Some.reason) (sym same) c.login_rejected.ensures.canonical)
+    answer_set (login_state c.args.logins.now) request Rejected _ _ c.deref.result.now c.set_answer.result c.set_answer.ensures.stage c.set_answer.ensures.answer (
+      c.args.login.now,
+      order,
+      record {
+        reason = c.in-Some.reason;
+        why = subst (λ (n : ℕ). IsRejectedFor n c.args.login.now c.in-Some.reason) c.current.ensures c.in-Some.ensures.why;
+        bytes_are = subst (λ (list : List ℕ). RejectsLogin list c.args.login.now.tag c.in-Some.reason) (sym same) c.login_rejected.ensures.canonical;
+      },
+    )
 
 pub returns-in-None-clause-made : goal.returns-in-None-clause-made
 returns-in-None-clause-made c = λ request order.
     let same : c.deref-in-None.result.now ≡ c.login_granted.result.items = search (rules, c.deref-in-None.ensures) in
-    answer_set c.args.logins.now.granted request (Granted c.args.number) _ _ c.deref-in-None.result.now c.set_answer-in-None.result c.set_answer-in-None.ensures.stage
+    answer_set (login_state c.args.logins.now) request (Granted c.args.number) _ _ c.deref-in-None.result.now c.set_answer-in-None.result c.set_answer-in-None.ensures.stage
     c.set_answer-in-None.ensures.answer
     (c.args.login.now, order, subst (λ (z : List ℕ × ℕ). GrantsLogin z.0 c.args.login.now.tag z.1) (λ i. (sym same i, c.credits.ensures i)) c.login_granted.ensures.canonical)

@@ -25,6 +25,7 @@ use Rattle.block_server.proofs.Sendings.{same_out}
 use Rattle.block_server.proofs.Hands.{keeps_same}
 use Rattle.std.specs.Prelude.{slice_index}
 use Rattle.block_server.specs.Standing.{stood}
+use Rattle.block_server.proofs.LastRows.{none_added}
 use Rattle.block_server.proofs.serving.make_step.Goals as goal
 
 pub returns-in_default-clause-once : goal.returns-in_default-clause-once
@@ -179,3 +180,18 @@ returns-clause-stood g c = λ client known.
     let both : HasBoth (stood client) c.args.command.now c.args.service.now.out.list.items c.args.service.now.inn.list.items =
     subst (λ (stage : Stage). Gathers (stood client) c.args.command.now stage c.args.service.now.out.list.items c.args.service.now.inn.list.items) c.in-DataOut.is known in
     subst (λ (inn : DataPieces). IsNamed (stood client) c.args.command.now.inn inn.list.items) (sym (c.keep.ensures.inn ∙ c.make_room.ensures.inn)) both.in_named
+
+pub returns-in_default-clause-rows : goal.returns-in_default-clause-rows
+returns-in_default-clause-rows g c = λ none. none_added _ _ _ _ none
+
+pub returns-clause-rows : goal.returns-clause-rows
+returns-clause-rows g c = λ none.
+    let blank = c.in_ok-row.ensures.row in
+    let row : ServedRow = record c.in_ok-row.row { out = c.from.result; inn = c.filled.result; fault = c.execute-reply.result.fault } in
+    record {
+      place_is = c.add_row-row.ensures.place ∙ ap length c.new_row.ensures.lists.history;
+      row = row;
+      added = c.add_row-row.ensures.history ∙ ap (λ (list : List ServedRow). list ++ row ∷ []) c.new_row.ensures.lists.history;
+      unit_is = blank.unit_is;
+      iu_is = blank.iu;
+    }

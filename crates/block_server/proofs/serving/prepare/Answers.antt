@@ -17,6 +17,8 @@ use Rattle.block_server.proofs.ComingStages.{unanswered_entry}
 use Rattle.std.proofs.Common.{refl}
 use Rattle.block_server.proofs.Servicing.{login_suits}
 use Rattle.block_server.proofs.RangeLaws.{lays_none}
+use Rattle.block_server.proofs.LastRows.{any_added, coded_last, none_added}
+use Rattle.block_server.proofs.Readying.{on_both}
 use Rattle.block_server.proofs.serving.prepare.Goals as goal
 
 pub returns-in-Command-clause-once : goal.returns-in-Command-clause-once
@@ -220,3 +222,21 @@ returns-in-Unreadable-clause-placed g c = λ client same alone start. lays_none 
 
 pub returns-in-Logout-clause-placed : goal.returns-in-Logout-clause-placed
 returns-in-Logout-clause-placed g c = λ client same alone start. lays_none _ _
+
+pub returns-in-Command-clause-rows : goal.returns-in-Command-clause-rows
+returns-in-Command-clause-rows g c = c.serve_command.ensures.rows
+
+pub returns-in-Login-clause-rows : goal.returns-in-Login-clause-rows
+returns-in-Login-clause-rows g c = λ none. any_added _ _ _ _ c.judge_login.result (c.judge_login.ensures.row none)
+
+pub returns-in-Task-clause-rows : goal.returns-in-Task-clause-rows
+returns-in-Task-clause-rows g c = λ none. on_both c.add_code.result _ _ _ (λ adds at. coded_last _ _ _ _ _ _ adds at) c.add_code.ensures.row c.add_code.ensures.stage
+
+pub returns-in-Unreadable-clause-rows : goal.returns-in-Unreadable-clause-rows
+returns-in-Unreadable-clause-rows g c = λ none. on_both c.add_code-in-Unreadable.result _ _ _ (λ adds at. coded_last _ _ _ _ _ _ adds at) c.add_code-in-Unreadable.ensures.row c.add_code-in-Unreadable.ensures.stage
+
+pub returns-in-Logout-clause-rows : goal.returns-in-Logout-clause-rows
+returns-in-Logout-clause-rows g c = λ none. none_added _ _ _ _ none
+
+pub returns-in_default-clause-rows : goal.returns-in_default-clause-rows
+returns-in_default-clause-rows g c = λ none. none_added _ _ _ _ none

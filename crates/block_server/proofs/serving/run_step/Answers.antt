@@ -23,6 +23,8 @@ use Rattle.block_server.proofs.Servicing.{before_suits}
 use Rattle.block_server.proofs.Standing.{before_answer}
 use Rattle.block_server.specs.Standing.{stood}
 use Rattle.block_server.proofs.Stood.{knows_answered}
+use Rattle.block_server.proofs.LastRows.{coded_last, none_added, none_before}
+use Rattle.block_server.proofs.Readying.{on_both}
 use Rattle.block_server.proofs.serving.run_step.Goals as goal
 
 pub returns-then-not-is_before_step-clause-once : goal.returns-then-not-is_before_step-clause-once
@@ -232,3 +234,19 @@ returns-in-Refused-clause-stood g c = λ client same alone known.
 
 pub returns-in-Done-clause-stood : goal.returns-in-Done-clause-stood
 returns-in-Done-clause-stood g c = λ client same alone known. c.make_step.ensures.stood client (c.fetch.ensures.stood client same alone known)
+
+pub returns-then-not-is_before_step-clause-rows : goal.returns-then-not-is_before_step-clause-rows
+returns-then-not-is_before_step-clause-rows g c = λ none. none_added _ _ _ _ none
+
+pub returns-in-Busy-clause-rows : goal.returns-in-Busy-clause-rows
+returns-in-Busy-clause-rows g c = λ none.
+    let before : is_before_step c.args.service.now.stage ≡ true = cc in
+    none_added _ _ _ _ (none_before _ (c.fetch.ensures.before before))
+
+pub returns-in-Refused-clause-rows : goal.returns-in-Refused-clause-rows
+returns-in-Refused-clause-rows g c = λ none. on_both c.add_code.result _ _ _ (λ adds at. coded_last _ _ _ _ _ _ adds at) c.add_code.ensures.row c.add_code.ensures.stage
+
+pub returns-in-Done-clause-rows : goal.returns-in-Done-clause-rows
+returns-in-Done-clause-rows g c = λ none.
+    let before : is_before_step c.args.service.now.stage ≡ true = cc in
+    c.make_step.ensures.rows (none_before _ (c.fetch.ensures.before before))

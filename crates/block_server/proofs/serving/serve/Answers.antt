@@ -61,6 +61,9 @@ use Rattle.block_server.specs.Standing.{HasAnswerAt}
 use Rattle.block_server.specs.declared.service.Stage.{Stage}
 use Rattle.block_server.proofs.Standing.{leaves_first}
 use Rattle.block_server.specs.Standing.{stood}
+use Rattle.block_server.proofs.LastRows.{adds_first}
+use Rattle.block_server.specs.Judged.{row_in}
+use Rattle.std.proofs.Common.{inr}
 use Rattle.block_server.proofs.serving.serve.Goals as goal
 
 pub returns-clause-advances : goal.returns-clause-advances
@@ -450,7 +453,7 @@ returns-clause-leaves g c = λ request rest servable other.
     c.prepare.new.service.stage c.prepare.new.service.answer.items c.answer.result servable front.1 c.prepare.ensures.advances c.prepare.ensures.queue c.note_stage.ensures.pending
     (ap (λ (s : Service). s.stage) c.note_stage.ensures.service) (ap (λ (s : Service). s.answer.items) c.note_stage.ensures.service) (c.in_ok-prepare.ensures.went (λ is. search rules))
     (c.in_ok-prepare.ensures.suits (subst (SuitsStage c.args.unit.now.logins.current c.in-Some.request.now.order) (sym servable.stage) tt))
-    (c.in_ok-prepare.ensures.made (subst (λ (stage : Stage). HasAnswerAt c.args.unit.now.logins.granted c.in-Some.request.now stage c.args.unit.now.service.answer.items) (sym servable.stage) tt))
+    (c.in_ok-prepare.ensures.made (subst (λ (stage : Stage). HasAnswerAt (login_state c.args.unit.now.logins) c.in-Some.request.now stage c.args.unit.now.service.answer.items) (sym servable.stage) tt))
     (λ outcome at parts link apart on may room. c.answer.ensures.serves request rest outcome at parts link apart on may room)
     (λ outcome at parts apart may. c.answer.ensures.laid request rest outcome at parts apart may)
 
@@ -476,3 +479,41 @@ returns-clause-placed g c = λ client same alone start request rest parts.
     (prepared_within (stood client) c.in-Some.request.now request _ _ (first_same _ c.in-Some.request.now request front.0 rest front.1 parts)
     (c.prepare.ensures.placed client same alone start))
     (wider_answer (stood client) request _ _ (c.answer.ensures.wrote request rest (c.note_stage.ensures.pending ∙ parts)))
+
+pub returns-in_default-clause-rows : goal.returns-in_default-clause-rows
+returns-in_default-clause-rows g c = λ request rest servable. absurd (no_front _ request rest servable.pending (search rules))
+
+pub returns-in-Logout-clause-rows : goal.returns-in-Logout-clause-rows
+returns-in-Logout-clause-rows g c = λ request rest servable.
+    let front = front_is _ _ c.in-Some.ensures.item.3 in
+    let asked : c.in-Some.request.now.order ≡ orders.Logout = search rules in
+    let same = first_same _ c.in-Some.request.now request front.0 rest front.1 servable.pending in
+    inr (ap gets_row (ap (λ (r : Request). r.order) (sym same) ∙ asked), c.log_out.ensures.history ∙ c.make_room.ensures.lists.history)
+
+pub returns-clause-rows : goal.returns-clause-rows
+returns-clause-rows g c = λ request rest servable.
+    let front = front_is _ _ c.in-Some.ensures.item.3 in
+    adds_first c.args.unit.now.logins.current c.args.unit.now.id c.in-Some.request.now request (g.S.Site.state c.args.site.now) (g.S.Site.state c.prepare.new.site) _ _ _ c.prepare.new.service.stage
+    c.note_stage.new.unit.service.stage c.answer.result (first_same _ c.in-Some.request.now request front.0 rest front.1 servable.pending) servable.apart (c.in_ok-prepare.ensures.went (λ is. search rules))
+    (c.in_ok-prepare.ensures.suits (subst (SuitsStage c.args.unit.now.logins.current c.in-Some.request.now.order) (sym servable.stage) tt))
+    (c.in_ok-prepare.ensures.rows (ap row_in servable.stage)) (ap (λ (s : Service). s.stage) c.note_stage.ensures.service) c.answer.ensures.rows
+
+pub returns-in_err-make_room-clause-no_row : goal.returns-in_err-make_room-clause-no_row
+returns-in_err-make_room-clause-no_row g c = λ empty.
+    let front = front_is _ _ c.in-Some.ensures.item.3 in
+    absurd (no_front _ c.in-Some.request.now front.0 front.1 empty)
+
+pub returns-in-Logout-clause-no_row : goal.returns-in-Logout-clause-no_row
+returns-in-Logout-clause-no_row g c = λ empty.
+    let front = front_is _ _ c.in-Some.ensures.item.3 in
+    absurd (no_front _ c.in-Some.request.now front.0 front.1 empty)
+
+pub returns-in_err-prepare-clause-no_row : goal.returns-in_err-prepare-clause-no_row
+returns-in_err-prepare-clause-no_row g c = λ empty.
+    let front = front_is _ _ c.in-Some.ensures.item.3 in
+    absurd (no_front _ c.in-Some.request.now front.0 front.1 empty)
+
+pub returns-clause-no_row : goal.returns-clause-no_row
+returns-clause-no_row g c = λ empty.
+    let front = front_is _ _ c.in-Some.ensures.item.3 in
+    absurd (no_front _ c.in-Some.request.now front.0 front.1 empty)

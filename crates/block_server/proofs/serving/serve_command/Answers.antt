@@ -20,6 +20,7 @@ use Rattle.block_server.specs.Ranges.{client_known}
 use Rattle.block_server.specs.Standing.{stood}
 use Rattle.block_server.specs.declared.service.Stage.TheVariants.{Start}
 use Rattle.block_server.proofs.Stood.{knows_at, placed_within}
+use Rattle.block_server.proofs.LastRows.{served_last}
 use Rattle.block_server.proofs.serving.serve_command.Goals as goal
 
 pub returns-in_err-run_step-clause-once : goal.returns-in_err-run_step-clause-once
@@ -147,3 +148,7 @@ returns-clause-placed g c = λ client same alone start.
     lays_asked (stood client) c.args.request.now.order c.args.command.now (client_known (g.S.Site.state c.args.site.now)) (client_known (g.S.Site.state c.hand_over.new.site)) c.requires.asked
     (placed_within (stood client) c.args.command.now c.store.new.service _ _ _ (c.in_ok-store.ensures.stood c.args.command.now client (c.in_ok-run_step.ensures.stood client same alone known))
     (c.store.ensures.known ∙ c.run_step.ensures.known) c.hand_over.ensures.wrote c.hand_over.ensures.unwritten)
+
+pub returns-clause-rows : goal.returns-clause-rows
+returns-clause-rows g c = λ none.
+    served_last c.args.id c.args.request.now _ _ _ _ _ _ c.hand_over.result (c.in_ok-run_step.ensures.rows none) c.store.ensures.row c.hand_over.ensures.row c.hand_over.ensures.rows

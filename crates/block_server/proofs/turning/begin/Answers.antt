@@ -10,6 +10,9 @@ use Rattle.block_server.proofs.Owing.{owes_ended}
 use Rattle.block_server.proofs.Ledgers.{explains_begun}
 use Rattle.block_server.specs.Refusals.{ledger_of}
 use Rattle.std.proofs.Common.{inr}
+use Rattle.std.proofs.Common.{◌∙◌, sym, true≢false}
+use Rattle.block_server.specs.Talk.{reach_of}
+use Rattle.block_server.proofs.FirstTurns.{begins_alone, stays_alone}
 use Rattle.block_server.proofs.turning.begin.Goals as goal
 
 pub returns-in-Some-clause-once : goal.returns-in-Some-clause-once
@@ -57,3 +60,32 @@ returns-in-Some-clause-refuses g c = λ records over fresh told unit front is.
 
 pub returns-in_default-clause-refuses : goal.returns-in_default-clause-refuses
 returns-in_default-clause-refuses g c = λ records over fresh. explains_begun _ _ over refl refl refl refl refl (inr fresh) (le_refl (g.S.Site.state c.args.site.now).queue.last_session) refl refl
+
+pub returns-in-Some-clause-alone : goal.returns-in-Some-clause-alone
+returns-in-Some-clause-alone g c = λ alone off.
+    begins_alone c.args.unit.now _ c.put_reply-next.new.unit (reach_of (g.S.Site.state c.args.site.now)) (reach_of (g.S.Site.state c.put_reply-next.new.site)) _
+    (c.put_reply-next.ensures.hears alone c.requires.on (λ on. absurd (true≢false (sym on ∙ off)))).1 c.put_reply-next.ensures.event off
+    (record {
+      id = refl;
+      handshake = c.registered.ensures.state;
+      closing = refl;
+      kept = refl;
+      waiting = refl;
+      stage = refl;
+      logins = refl;
+      pending = refl;
+    })
+
+pub returns-in_default-clause-alone : goal.returns-in_default-clause-alone
+returns-in_default-clause-alone g c = λ alone off.
+    stays_alone c.args.unit.now _ (reach_of (g.S.Site.state c.args.site.now))
+    (record {
+      id = refl;
+      handshake = c.registered.ensures.state;
+      closing = refl;
+      kept = refl;
+      waiting = refl;
+      stage = refl;
+      logins = refl;
+      pending = refl;
+    })

@@ -21,6 +21,11 @@ use Rattle.block_server.specs.SiteState.{SiteState}
 use Rattle.block_server.specs.Talk.{Replies}
 use Rattle.block_server.specs.declared.unit.Unit.{Unit}
 use Rattle.block_server.proofs.Talks.{both_off, replies_reserved}
+use Rattle.block_server.specs.Talk.{reach_of}
+use Rattle.crq_session.specs.declared.handshake.Handshake.TheVariants.{Down}
+use Rattle.std.proofs.Common.{◌≡◌}
+use Rattle.block_server.proofs.FirstTurns.{new_still, opens_from, quiet_first}
+use Rattle.block_server.specs.Talk.{StaysQuiet}
 use Rattle.block_server.proofs.turning.open_line.Goals as goal
 
 pub returns-in_err-reserve-clause-once : goal.returns-in_err-reserve-clause-once
@@ -284,3 +289,37 @@ returns-clause-idle g c = λ alone on none.
       subst (λ (s : SiteState). Replies (g.S.Site.state c.args.site.now).queue s.queue []) (sym freed.2) (replies_reserved _ _ _ c.reserve.ensures.rest is.0),
       ap (λ (s : SiteState). s.client) freed.2 ∙ is.1 ∙ c.reserve.ensures.windows.client,
     )
+
+pub returns-then-eq-clause-opens : goal.returns-then-eq-clause-opens
+returns-then-eq-clause-opens g c = λ is.
+    let pushed = c.push_event.ensures.rests (c.reserve.ensures.rest.kept ∙ is.event) in
+    absurd (search rules)
+
+pub returns-then-eq-2-clause-opens : goal.returns-then-eq-2-clause-opens
+returns-then-eq-2-clause-opens g c = λ is.
+    let pushed = c.push_event.ensures.rests (c.reserve.ensures.rest.kept ∙ is.event) in
+    let freed = c.free_closed.ensures.rests (ap (λ (u : Unit). u.line.closing) pushed.1 ∙ is.made.closing) in
+    absurd (search rules)
+
+pub returns-then-is_down-clause-opens : goal.returns-then-is_down-clause-opens
+returns-then-is_down-clause-opens g c = λ is.
+    let kept = c.reserve.ensures.rest.kept ∙ is.event in
+    let pushed = c.push_event.ensures.rests kept in
+    let freed = c.free_closed.ensures.rests (ap (λ (u : Unit). u.line.closing) pushed.1 ∙ is.made.closing) in
+    let idle = c.push_event.ensures.idle is.alone kept in
+    let same = freed.1 ∙ pushed.1 in
+    let quiet = subst (λ (s : SiteState). StaysQuiet (g.S.Site.state c.args.site.now).queue s.queue) (sym freed.2) (quiet_first _ _ _ c.reserve.ensures.rest is.event (c.push_event.ensures.event kept) idle.0) in
+    let client = ap (λ (s : SiteState). s.client) freed.2 ∙ idle.1 ∙ c.reserve.ensures.windows.client in
+    let shared = ap (λ (s : SiteState). s.shared) freed.2 ∙ c.push_event.ensures.advances.shared ∙ c.reserve.ensures.advances.shared in (
+      refl,
+      opens_from c.args.unit.now c.free_closed.new.unit c.register.new.unit (reach_of (g.S.Site.state c.args.site.now)) (reach_of (g.S.Site.state c.free_closed.new.site)) (reach_of (g.S.Site.state c.register.new.site))
+          (ap (λ (u : Unit). u.id) same) (ap (λ (u : Unit). u.logins) same) quiet client
+          (c.register.ensures.opens (new_still _ c.args.unit.now c.free_closed.new.unit (reach_of (g.S.Site.state c.args.site.now)) (reach_of (g.S.Site.state c.free_closed.new.site)) is same quiet shared)),
+    )
+
+pub returns-clause-opens : goal.returns-clause-opens
+returns-clause-opens g c = λ is.
+    let pushed = c.push_event.ensures.rests (c.reserve.ensures.rest.kept ∙ is.event) in
+    let freed = c.free_closed.ensures.rests (ap (λ (u : Unit). u.line.closing) pushed.1 ∙ is.made.closing) in
+    let down : c.free_closed.new.unit.line.handshake ≡ Down = ap (λ (u : Unit). u.line.handshake) (freed.1 ∙ pushed.1) ∙ is.made.handshake in
+    absurd (search rules)

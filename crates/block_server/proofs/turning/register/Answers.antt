@@ -14,6 +14,8 @@ use Rattle.block_server.specs.Refusals.{ledger_of}
 use Rattle.std.proofs.Common.{inl}
 use Rattle.block_server.proofs.ComingParts.{comes_none, less_later, register_still, work_begun, work_later}
 use Rattle.block_server.specs.Steps.{NoStage}
+use Rattle.block_server.specs.Talk.{reach_of}
+use Rattle.block_server.proofs.FirstTurns.{opens_not, opens_unit}
 use Rattle.block_server.proofs.turning.register.Goals as goal
 
 pub returns-in_default-clause-once : goal.returns-in_default-clause-once
@@ -133,3 +135,18 @@ pub returns-in-Closed-clause-comes : goal.returns-in-Closed-clause-comes
 returns-in-Closed-clause-comes g c =
     inl (less_later _ _ _ (work_begun (g.S.Site.state c.args.site.now) (g.S.Site.state c.register.new.self) c.register.ensures.advances c.in-Closed.ensures.opened.session)
     (work_later (g.S.Site.state c.register.new.self) (g.S.Site.state c.begin-in-Closed.new.site) c.begin-in-Closed.ensures.advances))
+
+pub returns-in-Success-clause-opens : goal.returns-in-Success-clause-opens
+returns-in-Success-clause-opens g c = λ is.
+    opens_unit _ c.args.unit.now c.begin.new.unit (reach_of (g.S.Site.state c.args.site.now)) (reach_of (g.S.Site.state c.register.new.self)) (reach_of (g.S.Site.state c.begin.new.site))
+    is c.in-Success.ensures.opened c.register.ensures.rest c.register.ensures.windows.client c.begin.ensures.alone
+
+pub returns-in-Closed-clause-opens : goal.returns-in-Closed-clause-opens
+returns-in-Closed-clause-opens g c = λ is.
+    opens_unit _ c.args.unit.now c.begin-in-Closed.new.unit (reach_of (g.S.Site.state c.args.site.now)) (reach_of (g.S.Site.state c.register.new.self)) (reach_of (g.S.Site.state c.begin-in-Closed.new.site))
+    is c.in-Closed.ensures.opened c.register.ensures.rest c.register.ensures.windows.client c.begin-in-Closed.ensures.alone
+
+pub returns-in_default-clause-opens : goal.returns-in_default-clause-opens
+returns-in_default-clause-opens g c = λ is.
+    absurd (opens_not _ _ _ c.register.result (λ answer. c.in_default.not-Success answer) (λ control answer. c.in_default.not-Closed control answer)
+    c.register.ensures.busy c.register.ensures.stands is.unregistered is.event)

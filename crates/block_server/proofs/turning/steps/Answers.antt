@@ -28,6 +28,8 @@ use Rattle.block_server.specs.Causes.{told_to}
 use Rattle.block_server.specs.Ranges.{MayWrite, LaysIn, client_known}
 use Rattle.block_server.proofs.TurnRanges.{leaves_on, writes_on}
 use Rattle.block_server.specs.Standing.{stood}
+use Rattle.block_server.proofs.FirstTurns.{over_not}
+use Rattle.block_server.proofs.TurnRows.{rows_on}
 use Rattle.block_server.proofs.turning.steps.Goals as goal
 
 pub returns-in_err-open_line-clause-once : goal.returns-in_err-open_line-clause-once
@@ -527,3 +529,50 @@ returns-clause-places g c = λ words calm.
     (λ now few. (c.in_ok-take_in.ensures.hears words now few).1)
     (λ window apart start request rest is. c.serve.ensures.placed (g.S.Site.state c.args.site.now).client window apart start request rest is)
     c.serve.ensures.still
+
+pub returns-then-eq-clause-opens : goal.returns-then-eq-clause-opens
+returns-then-eq-clause-opens g c = λ is. record { opens = (c.in_ok-open_line.ensures.opens is).1; lines_are = refl; rows_are = refl }
+
+pub returns-then-eq-2-clause-opens : goal.returns-then-eq-2-clause-opens
+returns-then-eq-2-clause-opens g c = λ is. absurd (over_not c.in_ok-open_line.field-0 (search rules) (c.in_ok-open_line.ensures.opens is).0)
+
+pub returns-then-eq-3-clause-opens : goal.returns-then-eq-3-clause-opens
+returns-then-eq-3-clause-opens g c = λ is. absurd (over_not c.in_ok-open_line.field-0 (search rules) (c.in_ok-open_line.ensures.opens is).0)
+
+pub returns-clause-opens : goal.returns-clause-opens
+returns-clause-opens g c = λ is. absurd (over_not c.in_ok-open_line.field-0 (search rules) (c.in_ok-open_line.ensures.opens is).0)
+
+pub returns-then-eq-clause-rows : goal.returns-then-eq-clause-rows
+returns-then-eq-clause-rows g c = λ words calm.
+    let opened = c.in_ok-open_line.ensures.rests (still_on c.args.unit.now.line calm.calm.closing calm.calm.up) calm.event in
+    absurd (not_end c.in_ok-open_line.field-0 (search rules) (inl opened.0))
+
+pub returns-then-eq-2-clause-rows : goal.returns-then-eq-2-clause-rows
+returns-then-eq-2-clause-rows g c = λ words calm.
+    let opened = c.in_ok-open_line.ensures.rests (still_on c.args.unit.now.line calm.calm.closing calm.calm.up) calm.event in
+    let put = c.in_ok-put_kept.ensures.rests (ap (λ (u : Unit). u.line.kept) opened.1 ∙ calm.calm.kept) in
+    absurd (not_end c.in_ok-put_kept.field-0 (search rules) (inl put.0))
+
+pub returns-then-eq-3-clause-rows : goal.returns-then-eq-3-clause-rows
+returns-then-eq-3-clause-rows g c = λ words calm.
+    let on = still_on c.args.unit.now.line calm.calm.closing calm.calm.up in
+    let opened = c.in_ok-open_line.ensures.rests on calm.event in
+    let first = c.in_ok-open_line.ensures.idle calm.calm.alone on calm.event in
+    let put = c.in_ok-put_kept.ensures.rests (ap (λ (u : Unit). u.line.kept) opened.1 ∙ calm.calm.kept) in
+    let ready = ready_on _ c.args.unit.now c.open_line.new.unit c.put_kept.new.unit (reach_of (g.S.Site.state c.args.site.now)) (reach_of (g.S.Site.state c.open_line.new.site)) (reach_of (g.S.Site.state c.put_kept.new.site)) words calm
+    opened.1 first.0 first.1 c.open_line.ensures.advances.shared put.1 (ap reach_of put.2) in
+    absurd (not_end c.in_ok-take_in.field-0 (search rules) (inr (c.in_ok-take_in.ensures.hears words ready.0 ready.1).0))
+
+pub returns-clause-rows : goal.returns-clause-rows
+returns-clause-rows g c = λ words calm.
+    let on = still_on c.args.unit.now.line calm.calm.closing calm.calm.up in
+    let opened = c.in_ok-open_line.ensures.rests on calm.event in
+    let first = c.in_ok-open_line.ensures.idle calm.calm.alone on calm.event in
+    let none = ap (λ (u : Unit). u.line.kept) opened.1 ∙ calm.calm.kept in
+    let put = c.in_ok-put_kept.ensures.rests none in
+    rows_on _ c.args.unit.now c.open_line.new.unit c.put_kept.new.unit c.take_in.new.unit
+    (reach_of (g.S.Site.state c.args.site.now)) (reach_of (g.S.Site.state c.open_line.new.site)) (reach_of (g.S.Site.state c.put_kept.new.site)) (reach_of (g.S.Site.state c.take_in.new.site))
+    _ _ _ _ _ _ _ words c.serve.result calm opened.1 first.0 first.1 c.open_line.ensures.advances.shared put.1 (ap reach_of put.2) (c.in_ok-put_kept.ensures.unkept none) c.take_in.ensures.advances.shared
+    (c.put_kept.ensures.unkept_rows none) (c.take_in.ensures.intake (ended_stands _ _ c.put_kept.ensures.stands ∙ c.in_ok-open_line.ensures.goes_on (search rules))).id c.take_in.ensures.rows
+    (λ now few. (c.in_ok-take_in.ensures.hears words now few).1)
+    c.serve.ensures.rows c.serve.ensures.no_row

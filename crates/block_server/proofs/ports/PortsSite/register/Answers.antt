@@ -1,6 +1,6 @@
 use Rattle.std.proofs.Common.{◌∙◌, subst, sym, refl}
 use Rattle.crq_session.specs.Control.{IsQueueSize}
-use Rattle.block_server.proofs.Sending.{queue_call, register_opens, register_puts, register_stands, same_taken}
+use Rattle.block_server.proofs.Sending.{queue_call, register_now, register_opens, register_puts, register_stands, same_taken}
 use Rattle.block_server.proofs.Plains.{register_plain}
 use Rattle.block_server.specs.Entries.{is_response}
 use Rattle.block_server.specs.LoginAnswers.{is_login_answer}
@@ -13,7 +13,9 @@ returns-clause-advances g c =
     queue_call _ _ _ _ _ old new c.register.ensures.rest.place c.register.ensures.rest.last_session
     (register_opens g.C.CrqEnd.is_shared old new c.register.result c.register.ensures.opened c.register.ensures.busy c.register.ensures.refused) (same_taken old new c.register.ensures.rest.taken)
     (register_puts g.C.CrqEnd.is_shared old new c.register.result c.args.self.now.event c.register.ensures.opened c.register.ensures.busy c.register.ensures.refused)
-    c.register.ensures.rest.counts.same_session c.register.ensures.rest.counts.closed
+    c.register.ensures.rest.counts.same_session
+    (register_now g.C.CrqEnd.is_shared old new c.register.result c.register.ensures.opened c.register.ensures.busy c.register.ensures.refused c.register.ensures.rest.counts.same_session)
+    c.register.ensures.rest.counts.closed
 
 pub returns-clause-plain : goal.returns-clause-plain
 returns-clause-plain g c =

@@ -3,6 +3,7 @@ use Rattle.std.proofs.Math.Logic.{∥∥₁_elim, ∥∥₁_map}
 use Rattle.std.proofs.lemmas.Option.{slice_get_read}
 use Rattle.vio_num.specs.declared.names.UnitId.{UnitId}
 use Rattle.crq_session.specs.EndState.{EndState}
+use Rattle.block_server.specs.Advances.{PutsNow}
 use Rattle.block_server.specs.Causes.{anything}
 use Rattle.tce_window.specs.PortState.{PortState}
 use Rattle.block_server.specs.Ready.{Agrees, AgreesAt, NothingReady}
@@ -35,6 +36,9 @@ use Rattle.block_server.proofs.Talks.{unit_talks}
 use Rattle.block_server.specs.Ranges.{WritesOn, seen_in}
 use Rattle.block_server.proofs.TurnRanges.{unit_leaves, unit_writes}
 use Rattle.block_server.specs.Standing.{LeavesOn, stood}
+use Rattle.block_server.specs.Talk.{UnitOpensOn}
+use Rattle.block_server.proofs.FirstTurns.{unit_opens}
+use Rattle.block_server.proofs.TurnRows.{unit_rows}
 use Rattle.block_server.proofs.server.Server.turn.Goals as goal
 
 pub returns-clause-answers : goal.returns-clause-answers
@@ -264,6 +268,12 @@ returns-clause-partner g c =
     subst (λ (queue : EndState). g.C.CrqEnd.is_shared ≡ false → queue.counts.partner_session ≡ (g.C.CrqEnd.state c.args.crq.now).counts.partner_session)
     (sym (ap g.C.CrqEnd.state (c.crq-1.given.1 (sym reached)))) c.turn.ensures.advances.partner
 
+pub returns-clause-sessions : goal.returns-clause-sessions
+returns-clause-sessions g c =
+    let reached = ap (λ (lent : Lenders). lent.queue) c.turn.ensures.advances.reached in
+    subst (λ (queue : EndState). g.C.CrqEnd.is_shared ≡ false → PutsNow (g.C.CrqEnd.state c.args.crq.now) queue)
+    (sym (ap g.C.CrqEnd.state (c.crq-1.given.1 (sym reached)))) c.turn.ensures.advances.now
+
 pub returns-clause-logins : goal.returns-clause-logins
 returns-clause-logins g c = λ told tells all since has earlier order on closed knows dealt.
     let server = c.args.self.now in
@@ -359,3 +369,25 @@ returns-clause-places g c = λ words u at calm.
     (reach (g.C.CrqEnd.state c.args.crq.now) (g.R.WindowPort.state c.args.client.now) g.R.WindowPort.is_shared) words _
     (seen_in g.R.WindowPort.is_shared (g.R.WindowPort.state c.turn.new.site.client.now)) c.turn.result there at
     (c.turn.ensures.places words) calm)
+
+pub returns-clause-opens : goal.returns-clause-opens
+returns-clause-opens g c = λ u at is.
+    let server = c.args.self.now in
+    let there : slice_get server.units.items c.args.unit ≡ Some c.index_mut.result.now =
+    slice_get_read server.units.items _ c.args.unit _ server.units.ok.0 c.requires.unit c.index_mut.ensures.value in
+    let lent = c.turn.ensures.advances.reached in
+    let queue = sym (ap g.C.CrqEnd.state (c.crq-1.given.1 (sym (ap (λ (lent : Lenders). lent.queue) lent)))) in
+    let client = sym (ap g.R.WindowPort.state (c.client-1.given.1 (sym (ap (λ (lent : Lenders). lent.client) lent)))) in
+    let before = reach (g.C.CrqEnd.state c.args.crq.now) (g.R.WindowPort.state c.args.client.now) g.R.WindowPort.is_shared in
+    subst (λ (z : EndState × PortState). OnOk c.turn.result (UnitOpensOn (slice_set server.units.items c.args.unit c.turn.new.unit) c.args.unit u before (reach z.0 z.1 g.R.WindowPort.is_shared)
+    server.records.grants.items c.turn.new.records.grants.items server.records.history.items c.turn.new.records.history.items)) (λ i. (queue i, client i))
+    (unit_opens _ server.units.items c.args.unit u c.index_mut.result.now c.turn.new.unit before
+    (reach (g.C.CrqEnd.state c.turn.new.site.queue.now) (g.R.WindowPort.state c.turn.new.site.client.now) g.R.WindowPort.is_shared) _ _ _ _ c.turn.result there at c.turn.ensures.opens is)
+
+pub returns-clause-rows : goal.returns-clause-rows
+returns-clause-rows g c = λ words u at calm.
+    let server = c.args.self.now in
+    let there : slice_get server.units.items c.args.unit ≡ Some c.index_mut.result.now =
+    slice_get_read server.units.items _ c.args.unit _ server.units.ok.0 c.requires.unit c.index_mut.ensures.value in
+    unit_rows _ server.units.items c.args.unit u c.index_mut.result.now
+    (reach (g.C.CrqEnd.state c.args.crq.now) (g.R.WindowPort.state c.args.client.now) g.R.WindowPort.is_shared) words _ _ c.turn.result there at (c.turn.ensures.rows words) calm

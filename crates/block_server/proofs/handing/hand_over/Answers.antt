@@ -20,7 +20,10 @@ use Rattle.block_server.specs.Talk.{SuitsStage}
 use Rattle.block_server.proofs.RangeLaws.{not_data_in}
 use Rattle.block_server.specs.Standing.{HasAnswerAt}
 use Rattle.block_server.specs.declared.service.Stage.{Stage}
-use Rattle.block_server.proofs.serving.hand_over.Goals as goal
+use Rattle.block_server.proofs.LastRows.{last_at, last_same}
+use Rattle.block_server.specs.Judged.{row_in}
+use Rattle.std.proofs.Common.{◌∙◌}
+use Rattle.block_server.proofs.handing.hand_over.Goals as goal
 
 pub returns-in_default-clause-once : goal.returns-in_default-clause-once
 returns-in_default-clause-once g c = λ id told all size now credits rest serving. once_same _ _ _ _ _ _ refl refl refl _ serving
@@ -111,3 +114,12 @@ pub returns-clause-made : goal.returns-clause-made
 returns-clause-made g c = λ granted old.
     c.end_command.ensures.made granted
     (subst (λ (stage : Stage). HasAnswerAt granted c.args.request.now stage c.deliver_data.new.service.answer.items) (sym c.deliver_data.ensures.stage.1) tt)
+
+pub returns-in_default-clause-rows : goal.returns-in_default-clause-rows
+returns-in_default-clause-rows g c = last_same _ _ _ refl
+
+pub returns-in_err-progress-clause-rows : goal.returns-in_err-progress-clause-rows
+returns-in_err-progress-clause-rows g c = last_same _ _ _ refl
+
+pub returns-clause-rows : goal.returns-clause-rows
+returns-clause-rows g c = last_at _ _ _ _ (ap row_in c.deliver_data.ensures.stage.1 ∙ sym (ap row_in c.in-DataIn.is)) c.end_command.ensures.rows

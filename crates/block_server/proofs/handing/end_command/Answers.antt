@@ -15,19 +15,21 @@ use Rattle.block_server.proofs.Sendings.{answered}
 use Rattle.block_server.specs.Judged.{gets_row}
 use Rattle.block_server.proofs.Servicing.{served_suits}
 use Rattle.block_server.proofs.Standing.{answer_set, answers_tag}
-use Rattle.block_server.proofs.serving.end_command.Goals as goal
+use Rattle.block_server.proofs.LastRows.{last_same}
+use Rattle.block_server.proofs.handing.end_command.Goals as goal
 
 pub returns-in_default : goal.returns-in_default
-returns-in_default c = record { made = λ granted old. old; suits = λ current old. old; cargo = λ id shown done. keeps_same _ _ refl; row = refl; states = refl; grants = refl; books = λ id session. one_same _ _ _ _ _ _ _ refl refl; once = λ id credits rest q disk cause serving. once_same _ _ _ _ _ _ refl refl refl disk serving; went = λ inn apart. not_data_in _ _ (λ row reply cursor is. c.in_default.not-DataIn row reply cursor is) inn }
+returns-in_default c = record { rows = last_same _ _ _ refl; made = λ granted old. old; suits = λ current old. old; cargo = λ id shown done. keeps_same _ _ refl; row = refl; states = refl; grants = refl; books = λ id session. one_same _ _ _ _ _ _ _ refl refl; once = λ id credits rest q disk cause serving. once_same _ _ _ _ _ _ refl refl refl disk serving; went = λ inn apart. not_data_in _ _ (λ row reply cursor is. c.in_default.not-DataIn row reply cursor is) inn }
 
 pub returns-in-Busy : goal.returns-in-Busy
-returns-in-Busy c = record { made = λ granted old. old; suits = λ current old. old; cargo = λ id shown done. keeps_same _ _ refl; row = refl; states = refl; grants = refl; books = λ id session. one_same _ _ _ _ _ _ _ refl refl; once = λ id credits rest q disk cause serving. once_same _ _ _ _ _ _ refl refl refl disk serving; went = λ inn apart. absurd (apart c.in-Busy.is) }
+returns-in-Busy c = record { rows = last_same _ _ _ refl; made = λ granted old. old; suits = λ current old. old; cargo = λ id shown done. keeps_same _ _ refl; row = refl; states = refl; grants = refl; books = λ id session. one_same _ _ _ _ _ _ _ refl refl; once = λ id credits rest q disk cause serving. once_same _ _ _ _ _ _ refl refl refl disk serving; went = λ inn apart. absurd (apart c.in-Busy.is) }
 
 pub returns-in-Refused : goal.returns-in-Refused
-returns-in-Refused c = record { made = c.refuse_data.ensures.made; suits = c.refuse_data.ensures.suits; cargo = λ id shown done. c.refuse_data.ensures.cargo id shown; row = c.refuse_data.ensures.row; states = c.refuse_data.ensures.states; grants = c.refuse_data.ensures.grants; books = c.refuse_data.ensures.books; once = λ id credits rest q disk cause serving. c.refuse_data.ensures.once id credits rest q disk (cause c.in-Refused.is) serving; went = on_ok c.refuse_data.result _ _ (λ went inn apart. went inn) c.refuse_data.ensures.went }
+returns-in-Refused c = record { rows = c.refuse_data.ensures.rows; made = c.refuse_data.ensures.made; suits = c.refuse_data.ensures.suits; cargo = λ id shown done. c.refuse_data.ensures.cargo id shown; row = c.refuse_data.ensures.row; states = c.refuse_data.ensures.states; grants = c.refuse_data.ensures.grants; books = c.refuse_data.ensures.books; once = λ id credits rest q disk cause serving. c.refuse_data.ensures.once id credits rest q disk (cause c.in-Refused.is) serving; went = on_ok c.refuse_data.result _ _ (λ went inn apart. went inn) c.refuse_data.ensures.went }
 
 pub returns-in-Done : goal.returns-in-Done
 returns-in-Done c = record {
+  rows = last_same _ _ _ refl;
   made = λ granted old.
       let same : c.deref.result.now ≡ c.with_status.result.items = search (rules, c.deref.ensures) in
       answer_set granted c.args.request.now (Served c.in-DataIn.row) _ _ c.deref.result.now c.set_answer.result c.set_answer.ensures.stage c.set_answer.ensures.answer

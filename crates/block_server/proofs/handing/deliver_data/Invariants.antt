@@ -12,7 +12,7 @@ use Rattle.std.proofs.Common.{◌≡◌, ◌-◌}
 use Rattle.block_server.specs.Advances.{Advances}
 use Rattle.block_server.specs.Moves.{Passes}
 use Rattle.block_server.specs.declared.service.Stage.TheVariants.{DataIn}
-use Rattle.block_server.proofs.serving.deliver_data.Given as goal
+use Rattle.block_server.proofs.handing.deliver_data.Given as goal
 
 abbrev pub invariant-loop-part : goal.invariant-loop-part
 invariant-loop-part g l = record {

@@ -24,7 +24,7 @@ use Rattle.block_server.proofs.Denying.{tells_first, tells_next}
 use Rattle.block_server.specs.Causes.{IsPartOf}
 use Rattle.block_server.specs.Ranges.{client_known}
 use Rattle.block_server.proofs.RangeLaws.{one_part, part_laid}
-use Rattle.block_server.proofs.serving.deliver_data.Goals as goal
+use Rattle.block_server.proofs.handing.deliver_data.Goals as goal
 
 pub returns-in-Err-Refused-clause-advances : goal.returns-in-Err-Refused-clause-advances
 returns-in-Err-Refused-clause-advances g c = advances_on _ _ _ c.loop-part.invariant.advances c.deliver_data.ensures.advances
