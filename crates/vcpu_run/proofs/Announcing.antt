@@ -55,31 +55,33 @@ none_behind : (xs ys : List PipeRow) → xs ++ ys ≡ xs → ys ≡ []
 none_behind xs ys same = append_cancel_left xs ys [] (same ∙ sym (append-nil xs))
 
 -- nothing was put, and the registration and the kept event are as before
-pub puts_none : (a b : EndState) → b.sent ≡ a.sent → b.kept ≡ a.kept → b.registered ≡ a.registered → DropsStay a.drops b.drops → Announces a b
-puts_none a b sent kept registered drops = record {
+pub puts_none : (a b : EndState) → b.sent ≡ a.sent → b.kept ≡ a.kept → b.registered ≡ a.registered → b.last_session ≡ a.last_session → DropsStay a.drops b.drops → Announces a b
+puts_none a b sent kept registered session drops = record {
   rows = [];
   sent = sent ∙ sym (append-nil a.sent);
   kept = λ event is on. inl (record { freed = registered ∙ is.freed; there = kept ∙ is.there });
   freed = λ was off on. absurd (both_bools a.registered was (sym registered ∙ off));
+  renewed = λ was on. inl session;
   says = λ is event there. is event (sym kept ∙ there);
   off = λ is gone on. inl no_events;
   drops = drops;
 }
 
 pub puts_same : (a : EndState) → Announces a a
-puts_same a = puts_none a a refl refl refl (stay_same a.drops a.drops refl)
+puts_same a = puts_none a a refl refl refl refl (stay_same a.drops a.drops refl)
 
 pub puts_reserves : (a b : EndState) → OnlyReserves a b → Announces a b
-puts_reserves a b r = puts_none a b r.sent r.kept r.registered (stay_ready a b r)
+puts_reserves a b r = puts_none a b r.sent r.kept r.registered r.last_session (stay_ready a b r)
 
 -- more was put, and they are as before; while the queue was not registered, none was
-pub puts_more : (a b : EndState) → HasMore a.sent b.sent → b.kept ≡ a.kept → b.registered ≡ a.registered → (a.registered ≡ false → b.sent ≡ a.sent) → DropsStay a.drops b.drops
-    → Announces a b
-puts_more a b more kept registered unsent drops = record {
+pub puts_more : (a b : EndState) → HasMore a.sent b.sent → b.kept ≡ a.kept → b.registered ≡ a.registered → b.last_session ≡ a.last_session
+    → (a.registered ≡ false → b.sent ≡ a.sent) → DropsStay a.drops b.drops → Announces a b
+puts_more a b more kept registered session unsent drops = record {
   rows = more.rows;
   sent = more.is;
   kept = λ event is on. inl (record { freed = registered ∙ is.freed; there = kept ∙ is.there });
   freed = λ was off on. absurd (both_bools a.registered was (sym registered ∙ off));
+  renewed = λ was on. inl session;
   says = λ is event there. is event (sym kept ∙ there);
   off = λ is gone on. inl (subst HaveEvents (sym (none_behind a.sent more.rows (sym more.is ∙ unsent (sym registered ∙ gone)))) no_events);
   drops = drops;
@@ -111,6 +113,7 @@ puts_on a b c place session first next = record {
   sent = next.sent ∙ (ap (λ (rows : List PipeRow). rows ++ next.rows) first.sent ∙ append_assoc a.sent first.rows next.rows);
   kept = λ event is on. way_on event on (first.kept event is on);
   freed = λ was off on. freed was off on b.registered refl;
+  renewed = λ was on. renewed was on b.registered refl;
   says = λ is. next.says (first.says is);
   off = λ is off on. gone is off on b.registered refl;
   drops = stay_on a.drops b.drops c.drops first.drops next.drops;
@@ -131,6 +134,22 @@ puts_on a b c place session first next = record {
     freed was off on false e =
         let told = first.freed was e on in
         (told.0, told.1, way_on told.0 on told.2)
+
+    next_on : a.place.partner_registered ≡ true → c.last_session ≡ b.last_session → (b.last_session ≡ a.last_session) ⊎ IsAnnounced first.rows b
+        → (c.last_session ≡ a.last_session) ⊎ IsAnnounced (first.rows ++ next.rows) c
+    next_on on then (inl same) = inl (then ∙ same)
+    next_on on then (inr told) = inr (told.0, told.1, way_on told.0 on told.2)
+
+    later_on : a.place.partner_registered ≡ true → (b.last_session ≡ a.last_session) ⊎ IsAnnounced first.rows b → (c.last_session ≡ b.last_session) ⊎ IsAnnounced next.rows c
+        → (c.last_session ≡ a.last_session) ⊎ IsAnnounced (first.rows ++ next.rows) c
+    later_on on was (inl same) = next_on on same was
+    later_on on was (inr told) = inr (told.0, told.1, way_behind told.0 told.2)
+
+    renewed : a.registered ≡ true → a.place.partner_registered ≡ true → (r : Bool) → b.registered ≡ r → (c.last_session ≡ a.last_session) ⊎ IsAnnounced (first.rows ++ next.rows) c
+    renewed was on true e = later_on on (first.renewed was on) (next.renewed e (place ∙ on))
+    renewed was on false e =
+        let told = first.freed was e on in
+        inr (told.0, told.1, way_on told.0 on told.2)
 
     told_first : a.place.partner_registered ≡ true → IsAnnounced first.rows b → IsAnnounced (first.rows ++ next.rows) c
     told_first on told = (told.0, told.1, way_on told.0 on told.2)
@@ -160,17 +179,19 @@ kept_some : (kept : Option Entry) (entry : Entry) → kept ≡ Some entry → fi
 kept_some kept entry some says event there = subst (λ (e : Entry). first_byte e ≡ 0xFF) (entry_is entry event (sym some ∙ there)) says
 
 -- the own queue was registered
-opens_settled : (shared : Bool) (a b : EndState) (kept : Option Entry) → shared ≡ false → a.kept ≡ kept → Settles shared kept a b → b.registered ≡ true → b.kept ≡ None → Announces a b
-opens_settled shared a b None alone was none on gone = record {
+opens_settled : (shared : Bool) (a b : EndState) (kept : Option Entry) → shared ≡ false → a.kept ≡ kept → a.registered ≡ false → Settles shared kept a b → b.registered ≡ true → b.kept ≡ None
+    → Announces a b
+opens_settled shared a b None alone was shut none on gone = record {
   rows = [];
   sent = none.sent ∙ sym (append-nil a.sent);
   kept = λ event is partner. absurd (no_some event (sym was ∙ is.there));
   freed = λ before off partner. absurd (both_bools b.registered on off);
+  renewed = λ before partner. absurd (both_bools a.registered before shut);
   says = λ is. kept_none b.kept gone;
   off = λ is off partner. absurd (both_bools b.registered on off);
   drops = stay_none a b none;
 }
-opens_settled shared a b (Some entry) alone was settles on gone = elim settles as (λ _. Announces a b) [
+opens_settled shared a b (Some entry) alone was shut settles on gone = elim settles as (λ _. Announces a b) [
   | inl puts ↦ record {
     rows = record { session = b.counts.partner_session; entry = entry } ∷ [];
     sent = puts.sent;
@@ -178,6 +199,7 @@ opens_settled shared a b (Some entry) alone was settles on gone = elim settles a
         inr (subst (λ (e : Entry). IsAmong e b.counts.partner_session (record { session = b.counts.partner_session; entry = entry } ∷ [])) (entry_is entry event (sym was ∙ is.there))
         (first_among entry b.counts.partner_session b.counts.partner_session refl));
     freed = λ before off partner. absurd (both_bools b.registered on off);
+    renewed = λ before partner. absurd (both_bools a.registered before shut);
     says = λ is. kept_none b.kept gone;
     off = λ is off partner. absurd (both_bools b.registered on off);
     drops = stay_puts shared a b entry puts;
@@ -187,6 +209,7 @@ opens_settled shared a b (Some entry) alone was settles on gone = elim settles a
     sent = loses.none.sent ∙ sym (append-nil a.sent);
     kept = λ event is partner. absurd (both_bools a.place.partner_registered partner (loses.meets.partner alone));
     freed = λ before off partner. absurd (both_bools b.registered on off);
+    renewed = λ before partner. absurd (both_bools a.registered before shut);
     says = λ is. kept_none b.kept gone;
     off = λ is off partner. absurd (both_bools b.registered on off);
     drops = stay_none a b loses.none;
@@ -194,10 +217,10 @@ opens_settled shared a b (Some entry) alone was settles on gone = elim settles a
 ]
 
 pub puts_opens : (shared : Bool) (a b : EndState) → shared ≡ false → Opens shared a b → Announces a b
-puts_opens shared a b alone opens = opens_settled shared a b a.kept alone refl opens.settles opens.registered opens.kept
+puts_opens shared a b alone opens = opens_settled shared a b a.kept alone refl opens.unregistered opens.settles opens.registered opens.kept
 
 pub puts_held : (shared : Bool) (a b : EndState) (number held : ℕ) → HoldsUp shared a b number held → Announces a b
-puts_held shared a b number held up = puts_none a b up.kept.full.sent up.kept.kept (up.still ∙ sym up.unregistered) (stay_full shared a b number held up.kept.full)
+puts_held shared a b number held up = puts_none a b up.kept.full.sent up.kept.kept (up.still ∙ sym up.unregistered) up.session (stay_full shared a b number held up.kept.full)
 
 -- behind room that was made
 pub puts_ready : (a room b : EndState) → OnlyReserves a room → b.counts.partner_session ≡ room.counts.partner_session → Announces room b → Announces a b
@@ -212,6 +235,7 @@ puts_freed shared a b event alone says frees = elim frees.tells as (λ _. Announ
     sent = put.0.sent;
     kept = λ other is on. absurd (both_bools a.registered frees.registered is.freed);
     freed = λ was off on. (event, says, inr (first_among event b.counts.partner_session b.counts.partner_session refl));
+    renewed = λ was on. inr (event, says, inr (first_among event b.counts.partner_session b.counts.partner_session refl));
     says = λ is. kept_none b.kept put.1;
     off = λ is off on. inr (event, says, inr (first_among event b.counts.partner_session b.counts.partner_session refl));
     drops = stay_puts shared a b event put.0;
@@ -222,6 +246,7 @@ puts_freed shared a b event alone says frees = elim frees.tells as (λ _. Announ
       sent = keeps.full.sent ∙ sym (append-nil a.sent);
       kept = λ other is on. absurd (both_bools a.registered frees.registered is.freed);
       freed = λ was off on. (event, says, inl (record { freed = frees.freed; there = keeps.kept }));
+      renewed = λ was on. inr (event, says, inl (record { freed = frees.freed; there = keeps.kept }));
       says = λ is. kept_some b.kept event keeps.kept says;
       off = λ is off on. inr (event, says, inl (record { freed = frees.freed; there = keeps.kept }));
       drops = stay_full shared a b keeps.number keeps.held keeps.full;
@@ -231,6 +256,7 @@ puts_freed shared a b event alone says frees = elim frees.tells as (λ _. Announ
       sent = lost.0.none.sent ∙ sym (append-nil a.sent);
       kept = λ other is on. absurd (both_bools a.registered frees.registered is.freed);
       freed = λ was off on. absurd (both_bools a.place.partner_registered on (lost.0.meets.partner alone));
+      renewed = λ was on. absurd (both_bools a.place.partner_registered on (lost.0.meets.partner alone));
       says = λ is. kept_none b.kept lost.1;
       off = λ is off on. absurd (both_bools a.place.partner_registered on (lost.0.meets.partner alone));
       drops = stay_none a b lost.0.none;
@@ -264,7 +290,7 @@ pub puts_at : (f g : Bool) (a b : List GName) (old new : PlainLink) → f ≡ fa
 puts_at f g a b old new is place puts = at f g is (ap (λ (p : EndPlace). p.first) place ∙ is) puts
   where
     here : Announces (end_of a old false) (end_of b new false) → Announces (end_of [] old false) (end_of [] new false)
-    here p = record { rows = p.rows; sent = p.sent; kept = p.kept; freed = p.freed; says = p.says; off = p.off; drops = p.drops }
+    here p = record { rows = p.rows; sent = p.sent; kept = p.kept; freed = p.freed; renewed = p.renewed; says = p.says; off = p.off; drops = p.drops }
 
     at : (d d' : Bool) → d ≡ false → d' ≡ false → Announces (end_of a old d) (end_of b new d') → Announces (end_of [] old false) (end_of [] new false)
     at false false e e' p = here p
@@ -288,6 +314,7 @@ puts_pushes a b rest pushes = at a.kept refl pushes.puts
           inr (subst (λ (t : Entry). IsAmong t b.counts.partner_session (record { session = b.counts.partner_session; entry = entry } ∷ [])) (entry_is entry event (sym e ∙ is.there))
           (first_among entry b.counts.partner_session b.counts.partner_session refl));
       freed = λ was off partner. absurd (both_bools a.registered was (sym rest.registered ∙ off));
+      renewed = λ was partner. inl rest.last_session;
       says = λ is. kept_none b.kept pushes.kept;
       off = λ is off partner. inl (one_event (record { session = b.counts.partner_session; entry = entry }) (is entry e));
       drops = stay_puts false a b entry puts;
@@ -305,6 +332,7 @@ puts_nothing a b rest none = at a.kept refl none.loses
       sent = sends.sent ∙ sym (append-nil a.sent);
       kept = λ event is partner. absurd (no_some event (sym e ∙ is.there));
       freed = λ was off partner. absurd (freed was off);
+      renewed = λ was partner. inl rest.last_session;
       says = λ is. kept_none b.kept none.kept;
       off = λ is off partner. inl no_events;
       drops = stay_none a b sends;
@@ -314,13 +342,14 @@ puts_nothing a b rest none = at a.kept refl none.loses
       sent = loses.none.sent ∙ sym (append-nil a.sent);
       kept = λ event is partner. absurd (both_bools a.place.partner_registered partner (loses.meets.partner refl));
       freed = λ was off partner. absurd (freed was off);
+      renewed = λ was partner. inl rest.last_session;
       says = λ is. kept_none b.kept none.kept;
       off = λ is off partner. inl no_events;
       drops = stay_none a b loses.none;
     }
 
 pub puts_kept : (a b : EndState) (number held : ℕ) → OnlyPushes false a b → StillKept false a b number held → Announces a b
-puts_kept a b number held rest kept = puts_none a b kept.full.sent kept.kept rest.registered (stay_full false a b number held kept.full)
+puts_kept a b number held rest kept = puts_none a b kept.full.sent kept.kept rest.registered rest.last_session (stay_full false a b number held kept.full)
 
 -- the own queue is to be registered, freed, or sent from, by the answer
 pub puts_registers : (shared : Bool) (a b : EndState) (answer : RegAnswer) → shared ≡ false → OnOpened answer (Opens shared a b) → IfHeldUp answer (HoldsUp shared a b)
@@ -340,7 +369,7 @@ puts_frees shared a b event free.Parameter alone says frees busy none = puts_res
 pub puts_entry : (shared : Bool) (a b : EndState) (entry : Entry) (answer : SendAnswer) → OnlySends shared a b → IfSent answer (Sends shared a entry b)
     → IfClosed answer (TurnsBack shared a b) → IfDropped answer (FindsFull shared a b) → OnNotSent answer (OnlyReserves a b) → OnReached answer (MaySend a entry) → Announces a b
 puts_entry shared a b entry answer rest sent closed dropped none may =
-    puts_more a b (at answer sent closed dropped none) rest.kept rest.registered (λ off. unsent answer off closed dropped none may)
+    puts_more a b (at answer sent closed dropped none) rest.kept rest.registered rest.last_session (λ off. unsent answer off closed dropped none may)
     (stay answer sent closed dropped none)
   where
     unsent : (answer : SendAnswer) → a.registered ≡ false → IfClosed answer (TurnsBack shared a b) → IfDropped answer (FindsFull shared a b) → OnNotSent answer (OnlyReserves a b)

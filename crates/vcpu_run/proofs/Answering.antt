@@ -41,7 +41,7 @@ only_others home k j (row ∷ rows) (next ∷ nexts) apart only = at only.0 (onl
 
     at : StaysRow (server_id home k) row next → filter test nexts ≡ filter test rows → filter test (next ∷ nexts) ≡ filter test (row ∷ rows)
     at (inl same) rest = subst (λ (r : Served). filter test (r ∷ nexts) ≡ filter test (row ∷ rows)) (sym same) (ap (λ (l : List Served). cond (test row) (row ∷ l) l) rest)
-    at (inr both) rest = skips test next nexts (not_of home k j next apart both.1) ∙ (rest ∙ sym (skips test row rows (not_of home k j row apart both.0)))
+    at (inr both) rest = skips test next nexts (not_of home k j next apart both.is) ∙ (rest ∙ sym (skips test row rows (not_of home k j row apart both.was)))
 
 -- a turn of the server unit
 pub answered_served : (unit : UnitId) (old new : Pair) (history history' : List Served) → unit ≡ old.server → new.server ≡ old.server

@@ -147,7 +147,7 @@ driver_is partitions id server pair None sound client same none = absurd (none i
 driver_is partitions id server pair (Some driver) sound client same is =
     sound.own driver.unit id pair.server (is.pages, is.queue, is.planned) (subst (IsClientOf partitions id) (sym same) client)
 
-client_sits : (partitions : List Partition) (pairs : List Pair) (id server : UnitId) → AreSound partitions → ArePlanned partitions pairs → IsClientOf partitions id server
+pub client_sits : (partitions : List Partition) (pairs : List Pair) (id server : UnitId) → AreSound partitions → ArePlanned partitions pairs → IsClientOf partitions id server
     → IsSomeAnd (slice_get pairs server.unit) (λ (pair : Pair). IsSomeAnd pair.driver (λ driver. driver.unit ≡ id))
 client_sits partitions pairs id server sound planned client =
     let pair = held (λ (pair : Pair). pair.server ≡ server) (slice_get pairs server.unit) (planned.servers server (sound.served id server client)) in

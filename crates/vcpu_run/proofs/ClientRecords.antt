@@ -35,7 +35,7 @@ use Rattle.vcpu_run.specs.CopiesCounted.{AllMadeBy, AreMadeBy, named_by}
 use Rattle.vcpu_run.specs.Agreed.{OnDrivers}
 use Rattle.vcpu_run.specs.DataNoted.{HasNoted, PairNoted}
 use Rattle.vcpu_run.specs.NotedOn.{AllKeepNoted, KeepsNoted}
-use Rattle.vcpu_run.specs.LinesRead.{AreKept, Asked, ClientLines, IsAskedBefore, IsLineRead, LineRead, PairRead, asked_by}
+use Rattle.vcpu_run.specs.LinesRead.{AreKept, AskedOf, ClientLines, IsAskedBefore, IsLineRead, LineRead, PairRead, asked_by}
 use Rattle.vcpu_run.specs.Moments.{AreInTurn}
 use Rattle.vcpu_run.specs.PortRegions.{IsCurrent, IsLogged}
 use Rattle.vcpu_run.specs.Ports.{unit_of}
@@ -361,7 +361,7 @@ logs_ends copies old new script ended line row found turn reached are stay keep 
         read own =
             answered k before after (ap (λ n. slice_get script.seats.items n) own ∙ here) e there (some_both (HasNoted before.server) before.driver (has_driver before e) before_is.noted)
 
-        asked : Asked
+        asked : AskedOf
         asked = IsAskedBefore unit script.lines.now (script.logs.items ++ row ∷ []) (length script.logs.items)
 
         kept_of : (tag : ℕ) (whole : DataRange) → asked tag whole → asked_by before.driver tag whole

@@ -24,7 +24,7 @@ use Rattle.vcpu_run.specs.DataNoted.{HasNoted}
 use Rattle.vcpu_run.specs.NotedOn.{AllKeepNoted, KeepsNoted}
 use Rattle.vcpu_run.specs.DataRead.{IsDataTold, IsKeptTold, IsNoData, given_by}
 use Rattle.vcpu_run.specs.LinesShow.{IsFurtherShown, IsShown, Seen, Sees, further_of, seen_between, seen_now}
-use Rattle.vcpu_run.specs.LinesRead.{Asked, ClientLines, IsAnsweredIn, IsAskedBefore, IsDataIn, IsDataInIf, IsLineRead, LineRead, asked_by, seen_of}
+use Rattle.vcpu_run.specs.LinesRead.{AskedOf, ClientLines, IsAnsweredIn, IsAskedBefore, IsDataIn, IsDataInIf, IsLineRead, LineRead, asked_by, seen_of}
 use Rattle.vcpu_run.specs.Pairs.{AreDrivers, IsDriver}
 use Rattle.vcpu_run.specs.Suited.{is_call}
 use Rattle.vcpu_run.specs.TakenScripts.{StepKeeps}
@@ -49,7 +49,7 @@ now_of : (pair : Pair) → Sees (seen_now pair) (seen_of (region_seen (strokes_a
 now_of pair = record { strokes = λ page stroke is. is; fronts = λ page front is. is; values = λ entry value is. tt; entries = λ entry is. tt }
 
 -- what is said of the data that a client keeps under a tag
-data_in : (server : UnitId) (strokes : Strokes) (asked : Asked) (tag : ℕ) (range : DataRange) (outcome : Outcome) → IsDataTold (seen_of (region_seen strokes)) (record { who = server; mark = tag }) range outcome
+data_in : (server : UnitId) (strokes : Strokes) (asked : AskedOf) (tag : ℕ) (range : DataRange) (outcome : Outcome) → IsDataTold (seen_of (region_seen strokes)) (record { who = server; mark = tag }) range outcome
     → IsAnsweredIn strokes asked tag range → IsDataInIf server strokes asked tag outcome
 data_in server strokes asked tag range (outcomes.Granted credits) told answered = tt
 data_in server strokes asked tag range (outcomes.Sent other) told answered = tt
@@ -74,7 +74,7 @@ data_in server strokes asked tag range (outcomes.Frame code number) told answere
 data_in server strokes asked tag range outcomes.Done told answered = tt
 data_in server strokes asked tag range (outcomes.Bytes shown) told answered = tt
 
-data_none : (server : UnitId) (strokes : Strokes) (asked : Asked) (tag : ℕ) (outcome : Outcome) → IsNoData outcome → IsDataInIf server strokes asked tag outcome
+data_none : (server : UnitId) (strokes : Strokes) (asked : AskedOf) (tag : ℕ) (outcome : Outcome) → IsNoData outcome → IsDataInIf server strokes asked tag outcome
 data_none server strokes asked tag (outcomes.Granted credits) none = tt
 data_none server strokes asked tag (outcomes.Sent other) none = tt
 data_none server strokes asked tag (outcomes.Took count) none = tt
@@ -98,7 +98,7 @@ data_none server strokes asked tag (outcomes.Frame code number) none = tt
 data_none server strokes asked tag outcomes.Done none = tt
 data_none server strokes asked tag (outcomes.Bytes shown) none = tt
 
-data_read : (server : UnitId) (strokes : Strokes) (asked : Asked) (client : ClientState) (tag : ℕ) (outcome : Outcome) → client.server ≡ server
+data_read : (server : UnitId) (strokes : Strokes) (asked : AskedOf) (client : ClientState) (tag : ℕ) (outcome : Outcome) → client.server ≡ server
     → ((range : DataRange) → data_range client tag ≡ Some range → IsAnsweredIn strokes asked tag range)
     → IsKeptTold (seen_of (region_seen strokes)) client (Some tag) outcome → IsDataInIf server strokes asked tag outcome
 data_read server strokes asked client tag outcome of answered = at (data_range client tag) refl
@@ -111,7 +111,7 @@ data_read server strokes asked client tag outcome of answered = at (data_range c
         (subst (λ (u : UnitId). IsDataTold (seen_of (region_seen strokes)) (record { who = u; mark = tag }) range outcome) of told) (answered range e)
 
 -- what a line that is no call shows, and says of data
-pub one_read : (seen : Seen) (server : UnitId) (strokes : Strokes) (asked : Asked) (verb : Verb) (outcome : Outcome) → Sees seen (seen_of (region_seen strokes)) → (is_call verb ≡ false → IsFurtherShown seen (further_of verb) outcome)
+pub one_read : (seen : Seen) (server : UnitId) (strokes : Strokes) (asked : AskedOf) (verb : Verb) (outcome : Outcome) → Sees seen (seen_of (region_seen strokes)) → (is_call verb ≡ false → IsFurtherShown seen (further_of verb) outcome)
     → ((tag : ℕ) → is_call verb ≡ false → given_by verb ≡ Some tag → IsDataInIf server strokes asked tag outcome) → IsLineRead server strokes asked verb outcome
 one_read seen server strokes asked verbs.Login outcome sees is given = answer_more seen (seen_of (region_seen strokes)) sees outcome (is refl)
 one_read seen server strokes asked verbs.Reset outcome sees is given = answer_more seen (seen_of (region_seen strokes)) sees outcome (is refl)
@@ -139,7 +139,7 @@ one_read seen server strokes asked (verbs.Hcall number arguments) outcome sees i
 one_read seen server strokes asked verbs.Fail outcome sees is given = tt
 
 -- the same by what fewer lines asked
-data_fewer : (server : UnitId) (strokes : Strokes) (asked fewer : Asked) (tag : ℕ) (outcome : Outcome) → ((whole : DataRange) → fewer tag whole → asked tag whole)
+data_fewer : (server : UnitId) (strokes : Strokes) (asked fewer : AskedOf) (tag : ℕ) (outcome : Outcome) → ((whole : DataRange) → fewer tag whole → asked tag whole)
     → IsDataIn server strokes asked tag outcome → IsDataIn server strokes fewer tag outcome
 data_fewer server strokes asked fewer tag outcome less is = record {
   range = is.range;
@@ -154,7 +154,7 @@ data_fewer server strokes asked fewer tag outcome less is = record {
   };
 }
 
-told_fewer : (server : UnitId) (strokes : Strokes) (asked fewer : Asked) (tag : ℕ) (outcome : Outcome) → ((whole : DataRange) → fewer tag whole → asked tag whole)
+told_fewer : (server : UnitId) (strokes : Strokes) (asked fewer : AskedOf) (tag : ℕ) (outcome : Outcome) → ((whole : DataRange) → fewer tag whole → asked tag whole)
     → IsDataInIf server strokes asked tag outcome → IsDataInIf server strokes fewer tag outcome
 told_fewer server strokes asked fewer tag (outcomes.Granted credits) less is = tt
 told_fewer server strokes asked fewer tag (outcomes.Sent other) less is = tt
@@ -179,7 +179,7 @@ told_fewer server strokes asked fewer tag (outcomes.Frame code number) less is =
 told_fewer server strokes asked fewer tag outcomes.Done less is = tt
 told_fewer server strokes asked fewer tag (outcomes.Bytes shown) less is = tt
 
-pub read_fewer : (server : UnitId) (strokes : Strokes) (asked fewer : Asked) (verb : Verb) (outcome : Outcome) → ((tag : ℕ) (whole : DataRange) → fewer tag whole → asked tag whole)
+pub read_fewer : (server : UnitId) (strokes : Strokes) (asked fewer : AskedOf) (verb : Verb) (outcome : Outcome) → ((tag : ℕ) (whole : DataRange) → fewer tag whole → asked tag whole)
     → IsLineRead server strokes asked verb outcome → IsLineRead server strokes fewer verb outcome
 read_fewer server strokes asked fewer verbs.Login outcome less is = is
 read_fewer server strokes asked fewer verbs.Reset outcome less is = is
@@ -302,7 +302,7 @@ client_one server strokes pages who lines rows line row most named found is last
   counted = counted_one who is.told.had strokes rows row most named now is.counted;
 }
   where
-    asked : (i : ℕ) → Asked
+    asked : (i : ℕ) → AskedOf
     asked i = IsAskedBefore who.unit lines (rows ++ row ∷ []) i
 
     by : (i : ℕ) (l : Line) (r : LogRow) → slice_get lines i ≡ Some l → l.unit ≡ who.unit → (slice_get rows i ≡ Some r) ⊎ ((i ≡ length rows) × (r ≡ row))

@@ -90,7 +90,8 @@ module _ (told : Told → Bool) (units units' : List Unit) (k : ℕ) (unit : Uni
       nothing : HeardNoEvent queue' → IsClosedSo told units units' k unit queue queue' before (HearsEvent queue')
       nothing none =
           let got = gone.gone on off none in
-          let low : length (taken_now queue') ≤ 0 = omega (arith, got, behind) in
+          let under = behind.low in
+          let low : length (taken_now queue') ≤ 0 = omega (arith, got, under) in
           off_none (λ put. dealt_none told put (λ session. false) units' k unit queue' (λ number entry at quiet. absurd (none_taken queue' number entry low at)))
 
       some_kept : (event : Entry) → queue'.place.partner_kept ≡ Some event → HeardNoEvent queue' → ⊥

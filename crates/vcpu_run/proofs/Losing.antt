@@ -1,17 +1,20 @@
 -- That an event of a client's freeing is on its way to its server unit: over what the client's side does, and at rest.
-use Rattle.std.proofs.Common.{◌≡◌, ◌∙◌, ◌⊎◌, inl, inr, ℕ, ◌+◌, ◌==◌, ◌≤◌, zero, suc, Bool, true, false, cond, List, [], ◌∷◌, ◌++◌, Option, Some, None, IsNone, filter, length, map, slice_get, refl, sym, ap, ap₂, subst, arith, length-append}
+use Rattle.std.proofs.Common.{◌≡◌, ◌∙◌, ◌⊎◌, inl, inr, ℕ, ◌+◌, ◌==◌, ◌<◌, ◌≤◌, zero, suc, Bool, true, false, cond, List, [], ◌∷◌, ◌++◌, Option, Some, None, IsNone, filter, length, map, slice_get, refl, sym, ap, ap₂, subst, arith, eqb-true, length-append}
 use Rattle.std.specs.Borrow.{GName}
+use Rattle.std.proofs.lemmas.Bool.Decides.{nat_tests}
 use Rattle.std.proofs.lemmas.Bool.{eq-eqb}
 use Rattle.std.proofs.lemmas.Option.{slice_get_within}
 use Rattle.vio_num.specs.Entry.{first_byte}
 use Rattle.vio_num.specs.declared.entry.Entry.{Entry}
 use Rattle.crq_ring.specs.Sessions.{of_session}
 use Rattle.crq_ring.specs.declared.rows.PipeRow.{PipeRow}
-use Rattle.crq_session.specs.Answered.{FindsNone, Opens, Takes, received_now, taken_now}
-use Rattle.crq_session.specs.Answers.{IfEmpty, IfGot, OnNotPolled}
+use Rattle.crq_session.specs.Answered.{FindsNone, HoldsUp, Opens, Takes, received_now, taken_now}
+use Rattle.crq_session.specs.Answers.{IfEmpty, IfGot, IfHeldUp, OnNotPolled, OnNotRegistered, OnOpened}
 use Rattle.crq_session.specs.declared.answers.PollAnswer.{PollAnswer}
 use Rattle.crq_session.specs.declared.answers.PollAnswer.TheVariants as poll
-use Rattle.crq_session.specs.EndState.{EndPlace, EndState, OnlyReserves, OnlyTakes}
+use Rattle.crq_session.specs.declared.answers.RegAnswer.{RegAnswer}
+use Rattle.crq_session.specs.declared.answers.RegAnswer.TheVariants as reg
+use Rattle.crq_session.specs.EndState.{EndPlace, EndState, OnlyRegisters, OnlyReserves, OnlyTakes}
 use Rattle.crq_session.specs.PlainState.{end_of, side_of}
 use Rattle.crq_session.specs.declared.link.PlainLink.{PlainLink}
 use Rattle.block_server.specs.Owed.{IsEventAhead, IsEventKept, IsLossAhead, SeesAnswers}
@@ -73,32 +76,68 @@ behind_there (x ∷ xs) ys n =
     let e : length (x ∷ xs) + n ≡ suc (length xs + n) = omega arith in
     ap (slice_get (x ∷ (xs ++ ys))) e ∙ behind_there xs ys n
 
--- no more was taken in the session than was received
+-- what was taken in the session is a front of what was received
 pub behind_same : (a b : EndState) → b.last_session ≡ a.last_session → b.taken ≡ a.taken → b.place ≡ a.place → IsBehind a → IsBehind b
 behind_same a b session taken place is =
     let took : taken_now b ≡ taken_now a = ap₂ of_session session taken in
     let got : received_now b ≡ received_now a = ap₂ of_session session (ap (λ (p : EndPlace). p.received) place) in
     let long = ap length took in
     let whole = ap length got in
-    omega (arith, is, long, whole)
+    let low = is.low in
+    record {
+      low = omega (arith, low, long, whole);
+      same = λ k less.
+          ap (λ (es : List Entry). slice_get es k) got ∙ (is.same k (omega (arith, less, long)) ∙ ap (λ (es : List Entry). slice_get es k) (sym took));
+    }
 
-pub behind_takes : (a b : EndState) (number : ℕ) (entry : Entry) → b.last_session ≡ a.last_session → b.place ≡ a.place → Takes false a b number entry → IsBehind b
-behind_takes a b number entry session place takes =
+-- a front of a list, and what stands behind it
+front_same : (xs ys : List Entry) (k : ℕ) → k < length xs → slice_get (xs ++ ys) k ≡ slice_get xs k
+front_same [] ys k less = absurd (omega (arith, less))
+front_same (x ∷ xs) ys zero less = refl
+front_same (x ∷ xs) ys (suc k) less = front_same xs ys k (omega (arith, less))
+
+last_there : (xs : List Entry) (entry : Entry) → slice_get (xs ++ entry ∷ []) (length xs) ≡ Some entry
+last_there [] entry = refl
+last_there (x ∷ xs) entry = last_there xs entry
+
+-- one entry more of it
+front_next : (received taken : List Entry) (number : ℕ) (entry : Entry) → number ≡ length taken → slice_get received number ≡ Some entry
+    → ((k : ℕ) → k < length taken → slice_get received k ≡ slice_get taken k) → (k : ℕ) → k < length (taken ++ entry ∷ []) → slice_get received k ≡ slice_get (taken ++ entry ∷ []) k
+front_next received taken number entry at there same k less = by (k == length taken) refl
+  where
+    apart : (k == length taken) ≡ false → k < length taken
+    apart e = let sum = length-append taken (entry ∷ []) in grind (arith, nat_tests, less, sum, e)
+
+    by : (b : Bool) → (k == length taken) ≡ b → slice_get received k ≡ slice_get (taken ++ entry ∷ []) k
+    by true e =
+        let is : k ≡ length taken = eqb-true k (length taken) e in
+        ap (slice_get received) (is ∙ sym at) ∙ (there ∙ (sym (last_there taken entry) ∙ ap (slice_get (taken ++ entry ∷ [])) (sym is)))
+    by false e = same k (apart e) ∙ sym (front_same taken (entry ∷ []) k (apart e))
+
+pub behind_takes : (a b : EndState) (number : ℕ) (entry : Entry) → b.last_session ≡ a.last_session → b.place ≡ a.place → Takes false a b number entry → IsBehind a → IsBehind b
+behind_takes a b number entry session place takes is =
     let row : PipeRow = record { session = a.last_session; entry = entry } in
     let took : taken_now b ≡ taken_now a ++ of_session a.last_session (row ∷ []) =
     ap₂ of_session session takes.taken ∙ of_append a.last_session a.taken (row ∷ []) in
     let one : of_session a.last_session (row ∷ []) ≡ entry ∷ [] =
     entries_are a.last_session (row ∷ []) ∙ ap (λ b. map (λ (r : PipeRow). r.entry) (cond b (row ∷ []) [])) (eq-eqb a.last_session a.last_session refl) in
     let got : received_now b ≡ received_now a = ap₂ of_session session (ap (λ (p : EndPlace). p.received) place) in
+    let whole : taken_now b ≡ taken_now a ++ entry ∷ [] = took ∙ ap (λ (es : List Entry). taken_now a ++ es) one in
     let less = slice_get_within (received_now a) number entry (takes.there refl) in
-    let long = ap length (took ∙ ap (λ (es : List Entry). taken_now a ++ es) one) in
+    let long = ap length whole in
     let sum = length-append (taken_now a) (entry ∷ []) in
-    let whole = ap length got in
+    let all = ap length got in
     let at = takes.number_is in
-    omega (arith, less, long, sum, whole, at)
+    record {
+      low = omega (arith, less, long, sum, all, at);
+      same = λ k within.
+          ap (λ (es : List Entry). slice_get es k) got
+          ∙ (front_next (received_now a) (taken_now a) number entry takes.number_is (takes.there refl) is.same k (omega (arith, within, long))
+          ∙ ap (λ (es : List Entry). slice_get es k) (sym whole));
+    }
 
 pub behind_opens : (a b : EndState) → Opens false a b → IsBehind b
-behind_opens a b opens = let none = ap length opens.none_taken in omega (arith, none)
+behind_opens a b opens = let none = ap length opens.none_taken in record { low = omega (arith, none); same = λ k less. absurd (omega (arith, less, none)) }
 
 behind_grows : (q q' : ℕ) (taken taken' received rows received' : List PipeRow) → q' ≡ q → taken' ≡ taken → received' ≡ received ++ rows
     → length (of_session q taken) ≤ length (of_session q received) → length (of_session q' taken') ≤ length (of_session q' received')
@@ -110,10 +149,24 @@ behind_grows q q' taken taken' received rows received' session same grown is =
     let sum = length-append (of_session q received) (of_session q rows) in
     omega (arith, is, long, whole, sum)
 
+front_grows : (q q' : ℕ) (taken taken' received rows received' : List PipeRow) → q' ≡ q → taken' ≡ taken → received' ≡ received ++ rows
+    → length (of_session q taken) ≤ length (of_session q received) → ((k : ℕ) → k < length (of_session q taken) → slice_get (of_session q received) k ≡ slice_get (of_session q taken) k)
+    → (k : ℕ) → k < length (of_session q' taken') → slice_get (of_session q' received') k ≡ slice_get (of_session q' taken') k
+front_grows q q' taken taken' received rows received' session same grown low is k less =
+    let took : of_session q' taken' ≡ of_session q taken = ap₂ of_session session same in
+    let got : of_session q' received' ≡ of_session q received ++ of_session q rows = ap₂ of_session session grown ∙ of_append q received rows in
+    let long = ap length took in
+    ap (λ (es : List Entry). slice_get es k) got
+    ∙ (front_same (of_session q received) (of_session q rows) k (omega (arith, less, long, low))
+    ∙ (is k (omega (arith, less, long)) ∙ ap (λ (es : List Entry). slice_get es k) (sym took)))
+
 pub behind_driven : (old new : Pair) → Drives old new → IsBehind (end_of [] old.link true) → IsBehind (end_of [] new.link true)
-behind_driven old new d is =
-    behind_grows (side_of old.link true).queue.session (side_of new.link true).queue.session (side_of old.link true).queue.taken (side_of new.link true).queue.taken
-    (side_of old.link true).queue.sent d.puts.rows (side_of new.link true).queue.sent d.server_session d.server_taken d.puts.sent is
+behind_driven old new d is = record {
+  low = behind_grows (side_of old.link true).queue.session (side_of new.link true).queue.session (side_of old.link true).queue.taken (side_of new.link true).queue.taken
+      (side_of old.link true).queue.sent d.puts.rows (side_of new.link true).queue.sent d.server_session d.server_taken d.puts.sent is.low;
+  same = front_grows (side_of old.link true).queue.session (side_of new.link true).queue.session (side_of old.link true).queue.taken (side_of new.link true).queue.taken
+      (side_of old.link true).queue.sent d.puts.rows (side_of new.link true).queue.sent d.server_session d.server_taken d.puts.sent is.low is.same;
+}
 
 -- an event that was put stands ahead
 ahead_among : (old new : Pair) (d : Drives old new) (event : Entry) → IsBehind (end_of [] old.link true) → first_byte event ≡ 0xFF
@@ -131,11 +184,11 @@ ahead_among old new d event is says among =
       there = ap (λ (es : List Entry). slice_get es (length (of_session q received) + there.0)) got
           ∙ (behind_there (of_session q received) (of_session q d.puts.rows) there.0
           ∙ (ap (λ (es : List Entry). slice_get es there.0) (entries_are q d.puts.rows) ∙ (there.1 ∙ ap Some among.entry_is)));
-      ahead = omega (arith, is, took);
+      ahead = let low = is.low in omega (arith, low, took);
       says = says;
     }
 
-comes_by : (old new : Pair) (d : Drives old new) (event : Entry) → IsBehind (end_of [] old.link true) → first_byte event ≡ 0xFF
+pub comes_by : (old new : Pair) (d : Drives old new) (event : Entry) → IsBehind (end_of [] old.link true) → first_byte event ≡ 0xFF
     → IsOnItsWay event d.puts.rows (end_of [] new.link false) → IsEventAhead (end_of [] new.link true) ⊎ IsEventKept (end_of [] new.link true)
 comes_by old new d event is says (inl kept) = inr (record { event = event; kept = kept.there; says = says })
 comes_by old new d event is says (inr among) = inl (ahead_among old new d event is says among)
@@ -231,14 +284,27 @@ none_ahead a link all none loss = at loss.comes
 pub sees_same : (queue : EndState) → SeesAnswers queue queue
 sees_same queue = record { session = refl; registered = refl; ahead = λ loss. loss; gone = λ on off. inl off }
 
-pub behind_none : (q : ℕ) (taken received : List PipeRow) → taken ≡ [] → length (of_session q taken) ≤ length (of_session q received)
-behind_none q taken received none = let long = ap length (ap (of_session q) none ∙ of_none q) in omega (arith, long)
+pub behind_none : (link : PlainLink) → (side_of link true).queue.taken ≡ [] → IsBehind (end_of [] link true)
+behind_none link none =
+    let long : length (taken_now (end_of [] link true)) ≡ 0 = ap length (ap (of_session (side_of link true).queue.session) none ∙ of_none (side_of link true).queue.session) in
+    record { low = omega (arith, long); same = λ k less. absurd (omega (arith, less, long)) }
 
 pub behind_back : (f : Bool) (a b : List GName) (link : PlainLink) → f ≡ true → IsBehind (end_of b link f) → IsBehind (end_of a link true)
-behind_back f a b link is behind = subst (λ d. IsBehind (end_of b link d)) is behind
+behind_back f a b link is behind = here (subst (λ d. IsBehind (end_of b link d)) is behind)
+  where
+    here : IsBehind (end_of b link true) → IsBehind (end_of a link true)
+    here h = record { low = h.low; same = h.same }
 
 pub behind_polls : (a b : EndState) (answer : PollAnswer) → OnlyTakes false a b → IfGot answer (Takes false a b) → IfEmpty answer (FindsNone false a b)
     → OnNotPolled answer (OnlyReserves a b) → IsBehind a → IsBehind b
-behind_polls a b (poll.Got number entry) rest got empty none is = behind_takes a b number entry rest.last_session rest.place got
+behind_polls a b (poll.Got number entry) rest got empty none is = behind_takes a b number entry rest.last_session rest.place got is
 behind_polls a b (poll.Empty number) rest got empty none is = behind_same a b rest.last_session empty.taken rest.place is
 behind_polls a b poll.NotRegistered rest got empty none is = behind_same a b none.last_session none.taken none.place is
+
+pub behind_registers : (a b : EndState) (answer : RegAnswer) → OnlyRegisters false a b → OnOpened answer (Opens false a b) → IfHeldUp answer (HoldsUp false a b)
+    → OnNotRegistered answer (OnlyReserves a b) → IsBehind a → IsBehind b
+behind_registers a b reg.Success rest opens up none is = behind_opens a b opens
+behind_registers a b (reg.Closed control) rest opens up none is = behind_opens a b opens
+behind_registers a b (reg.Busy number held) rest opens up none is = behind_same a b up.session rest.taken rest.place is
+behind_registers a b reg.Parameter rest opens up none is = behind_same a b none.last_session none.taken none.place is
+behind_registers a b reg.Resource rest opens up none is = behind_same a b none.last_session none.taken none.place is

@@ -40,11 +40,11 @@ new_window unit pages = record {
   in_use = 0;
 }
 
-first_value : (e : ℕ) → values_of [] e ≡ (4096 * e + 3) ∷ []
+pub first_value : (e : ℕ) → values_of [] e ≡ (4096 * e + 3) ∷ []
 unfolding values_of
 first_value e = refl
 
-size_new : (unit : UnitId) (pages : ℕ) (window : WindowValue) → window ≡ new_window unit pages → length window.pages ≡ pages
+pub size_new : (unit : UnitId) (pages : ℕ) (window : WindowValue) → window ≡ new_window unit pages → length window.pages ≡ pages
 size_new unit pages window new = ap (λ (w : WindowValue). length w.pages) new ∙ length-replicate pages blank_page
 
 ready_new : (server : UnitId) (pages : ℕ) (client : UnitId) (own window : WindowValue) → own ≡ new_window server 34 → window ≡ new_window client pages

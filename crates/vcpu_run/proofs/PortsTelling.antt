@@ -12,12 +12,14 @@ use Rattle.lan_script.specs.Replayed.{is_replayed}
 use Rattle.lan_script.specs.Seats.{is_in_region}
 use Rattle.lan_script.specs.Units.{LanValue}
 use Rattle.vcpu_run.specs.declared.script.Script.{Script}
+use Rattle.vcpu_run.specs.FailedPorts.{PortsClosed}
 use Rattle.vcpu_run.specs.PortCalls.{EndsEntries}
 use Rattle.vcpu_run.specs.PortMacs.{EndsPorts}
 use Rattle.vcpu_run.specs.PortSteps.{AllSilent, AllTake, AreFresh, TellsStep}
 use Rattle.vcpu_run.specs.PortWords.{TellsPorts, done_in, frame_of}
 use Rattle.vcpu_run.specs.Suited.{is_call}
 use Rattle.vcpu_run.specs.Works.{fails}
+use Rattle.vcpu_run.proofs.FailedPorts.{closes_failed, closes_fresh, closes_rest, closes_step, closes_wait}
 use Rattle.vcpu_run.proofs.PortFitting.{fit_ends, fit_fails, fit_fresh, fit_rest, fit_waits}
 use Rattle.vcpu_run.proofs.PortAddresses.{macs_fresh, macs_quiet, macs_rest, macs_silent, macs_step, macs_wait, silent_here}
 use Rattle.vcpu_run.proofs.PortAmong.{among_fresh, among_quiet, among_rest, among_silent, among_step, among_took, among_wait}
@@ -59,17 +61,18 @@ port_waits lan lan' script script' line moved found same no_call step tells = re
   replay = replay_waits lan lan' script script' line moved found same step tells.replay;
   offers = offers_wait lan lan' script script' line moved found same step tells.offers;
   fit = fit_waits lan lan' script script' line moved found same step tells.replay tells.fit;
+  closes = closes_wait lan lan' script script' line found same tells.closes;
 }
 
 -- it ends
 pub step_tells : (lan lan' : LanValue) (script ended : Script) (line : Line) (row : LogRow) (done' : ℕ) → slice_get script.lines.now script.at ≡ Some line
     → length script.logs.items ≡ script.at → ended.partition ≡ script.partition → ended.lines ≡ script.lines → ended.seats ≡ script.seats
     → ended.logs.items ≡ script.logs.items ++ row ∷ [] → done_in ended.progress ≡ 0
-    → lan'.seats ≡ lan.seats → (is_call line.verb ≡ true → EndsPorts script.partition line.verb lan lan' (steps.Ends row.outcome))
+    → fails line.verb ≡ false → lan'.seats ≡ lan.seats → (is_call line.verb ≡ true → EndsPorts script.partition line.verb lan lan' (steps.Ends row.outcome))
     → (is_call line.verb ≡ true → EndsEntries script.partition (slice_get script.seats.items) line.verb lan lan' (steps.Ends row.outcome))
     → (is_call line.verb ≡ false → TellsStep script.partition script.seats.items line (done_in script.progress) done' lan lan' (steps.Ends row.outcome))
     → TellsPorts lan script → TellsPorts lan' ended
-step_tells lan lan' script ended line row done' found reached partition lines seats logs fresh ports call entry step tells = record {
+step_tells lan lan' script ended line row done' found reached partition lines seats logs fresh other ports call entry step tells = record {
   words = step_words lan lan' script ended line row done' found reached partition lines seats logs fresh step tells.words;
   among = among_step lan lan' script ended line row done' found reached partition lines seats logs fresh call step tells.among;
   ranges = ranges_step lan lan' script ended line row done' found reached partition lines seats logs ports step tells.ranges;
@@ -87,6 +90,7 @@ step_tells lan lan' script ended line row done' found reached partition lines se
       (λ no going unit sat. step_replay lan lan' script line row done' unit (line.unit == unit) ((step no).rises unit sat)) tells.replay tells.offers;
   fit = fit_ends lan lan' script ended line row found reached partition lines seats logs
       (λ no going unit sat. step_replay lan lan' script line row done' unit (line.unit == unit) ((step no).rises unit sat)) tells.replay tells.fit;
+  closes = closes_step lan lan' script ended line row found reached lines logs other tells.closes;
 }
 
 -- a line that did nothing and is none of a replay, nor of one that lines tell of
@@ -94,8 +98,8 @@ pub quiet_tells : (lan : LanValue) (script ended : Script) (line : Line) (row : 
     → length script.logs.items ≡ script.at → ended.partition ≡ script.partition → ended.lines ≡ script.lines → ended.seats ≡ script.seats
     → ended.logs.items ≡ script.logs.items ++ row ∷ [] → done_in ended.progress ≡ 0
     → frame_of row.outcome ≡ [] → counts_told row.outcome ≡ counts 0 0 → ((d : ℕ) → counts_by line.verb d ≡ counts 0 0) → is_replayed line.verb ≡ false
-    → is_put line.verb ≡ false → is_in_region line.verb ≡ false → is_call line.verb ≡ false → TellsPorts lan script → TellsPorts lan ended
-quiet_tells lan script ended line row found reached partition lines seats logs fresh no_frame none nothing other isnt apart no_call tells = record {
+    → is_put line.verb ≡ false → is_in_region line.verb ≡ false → is_call line.verb ≡ false → fails line.verb ≡ false → TellsPorts lan script → TellsPorts lan ended
+quiet_tells lan script ended line row found reached partition lines seats logs fresh no_frame none nothing other isnt apart no_call goes_on tells = record {
   words = quiet_words lan lan script ended line row found reached partition lines seats logs fresh no_frame none nothing (all_still lan) tells.words;
   among = among_quiet lan lan script ended line row found reached partition lines seats logs fresh no_frame none nothing isnt (all_still lan) tells.among;
   ranges = ranges_quiet lan lan script ended line row found reached partition lines seats logs (λ pages. quiet_ranged pages line.verb row.outcome other) (all_still lan) tells.ranges;
@@ -113,6 +117,7 @@ quiet_tells lan script ended line row found reached partition lines seats logs f
       (λ no going unit sat. none_replay lan script line row unit (line.unit == unit) other) tells.replay tells.offers;
   fit = fit_ends lan lan script ended line row found reached partition lines seats logs
       (λ no going unit sat. none_replay lan script line row unit (line.unit == unit) other) tells.replay tells.fit;
+  closes = closes_step lan lan script ended line row found reached lines logs goes_on tells.closes;
 }
 
 -- a line of frames that waits and is ended: it tells of those that it took
@@ -139,6 +144,7 @@ took_tells lan script ended line row count taken found reached partition lines s
       (λ no going unit sat. none_replay lan script line row unit (line.unit == unit) (ap is_replayed verb)) tells.replay tells.offers;
   fit = fit_ends lan lan script ended line row found reached partition lines seats logs
       (λ no going unit sat. none_replay lan script line row unit (line.unit == unit) (ap is_replayed verb)) tells.replay tells.fit;
+  closes = closes_step lan lan script ended line row found reached lines logs (ap fails verb) tells.closes;
 }
 
 -- a line that failed the partition
@@ -146,8 +152,9 @@ pub failed_tells : (lan lan' : LanValue) (script ended : Script) (line : Line) (
     → length script.logs.items ≡ script.at → ended.partition ≡ script.partition → ended.lines ≡ script.lines → ended.seats ≡ script.seats
     → ended.logs.items ≡ script.logs.items ++ row ∷ [] → done_in ended.progress ≡ 0
     → frame_of row.outcome ≡ [] → counts_told row.outcome ≡ counts 0 0 → fails line.verb ≡ true → AllSilent lan lan'
+    → ended.at ≡ length ended.lines.now → PortsClosed script.partition script.seats.items lan'
     → TellsPorts lan script → TellsPorts lan' ended
-failed_tells lan lan' script ended line row found reached partition lines seats logs fresh no_frame none failing silent tells = record {
+failed_tells lan lan' script ended line row found reached partition lines seats logs fresh no_frame none failing silent over closed tells = record {
   words = quiet_words lan lan' script ended line row found reached partition lines seats logs fresh no_frame none (fails_none line.verb failing) silent tells.words;
   among = among_quiet lan lan' script ended line row found reached partition lines seats logs fresh no_frame none (fails_none line.verb failing) (fails_puts_none line.verb failing) silent tells.among;
   ranges = ranges_quiet lan lan' script ended line row found reached partition lines seats logs (λ pages. fails_ranged pages line.verb row.outcome failing) silent tells.ranges;
@@ -162,6 +169,7 @@ failed_tells lan lan' script ended line row found reached partition lines seats 
   replay = failing_replay lan' script ended line found failing lines;
   offers = offers_fail lan' script ended line found failing lines;
   fit = fit_fails lan' script ended line found failing lines;
+  closes = closes_failed lan' script ended over partition seats closed;
 }
 
 -- one that fails it still
@@ -182,6 +190,7 @@ failing_tells lan lan' script line found failing silent tells = record {
   replay = failing_replay lan' script script line found failing refl;
   offers = offers_fail lan' script script line found failing refl;
   fit = fit_fails lan' script script line found failing refl;
+  closes = closes_wait lan lan' script script line found refl tells.closes;
 }
 
 -- nothing but frames was taken
@@ -201,6 +210,7 @@ rest_tells lan lan' script takes tells = record {
   replay = rest_replay lan lan' script takes tells.replay;
   offers = offers_rest lan lan' script takes tells.offers;
   fit = fit_rest lan lan' script takes tells.replay tells.fit;
+  closes = closes_rest lan lan' script takes tells.closes;
 }
 
 -- a script before its first line
@@ -220,4 +230,5 @@ fresh_tells lan script logs progress fresh = record {
   replay = fresh_replay lan script logs progress fresh;
   offers = offers_fresh lan script logs;
   fit = fit_fresh lan script fresh;
+  closes = closes_fresh lan script logs;
 }

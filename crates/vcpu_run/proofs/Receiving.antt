@@ -32,6 +32,7 @@ use Rattle.block_server.proofs.OwedLaws.{answers_elsewhere, answers_seen}
 use Rattle.block_server.proofs.IntakeLaws.{intake_none, intake_stays, others_pass}
 use Rattle.vcpu_run.specs.declared.pair.Pair.{Pair}
 use Rattle.vcpu_run.specs.Answered.{AreBegun, IsBehind}
+use Rattle.vcpu_run.specs.LastGiven.{HaveLastGiven}
 use Rattle.vcpu_run.specs.Pairs.{AreDriven, Drives}
 use Rattle.vcpu_run.specs.Reached.{HasBegun}
 use Rattle.vcpu_run.specs.Received.{AreNew, AreReceived, IsReceived}
@@ -40,6 +41,8 @@ use Rattle.vcpu_run.specs.Gone.{IsToldOfGone}
 use Rattle.vcpu_run.specs.Links.{AreClosed}
 use Rattle.vcpu_run.proofs.Gone.{gone_driven}
 use Rattle.vcpu_run.proofs.Keeping.{own_stays}
+use Rattle.vcpu_run.proofs.LastDriven.{driven_received, elsewhere_received, fresh_received, served_received}
+use Rattle.vcpu_run.proofs.LastServed.{ServesLast}
 use Rattle.vcpu_run.proofs.Listed.{came_from}
 use Rattle.vcpu_run.proofs.Losing.{behind_driven, behind_none, sees_driven, sees_same}
 use Rattle.vcpu_run.proofs.Waiting.{agrees_like, agrees_other}
@@ -109,7 +112,7 @@ judged_seen units units' unit own own' client client' queue queue' copies copies
 }
 
 -- A turn of the server unit, over an end of its link that sees the queue as the pair does.
-pub received_served : (units units' : List Unit) (unit : ℕ) (old new : Pair) (queue queue' : EndState) (copies copies' : List CopyRecord) (grants grants' : List Grant) (history history' : List Served)
+pub received_served : {granted : ℕ} (units units' : List Unit) (unit : ℕ) (old new : Pair) (queue queue' : EndState) (copies copies' : List CopyRecord) (grants grants' : List Grant) (history history' : List Served)
     → queue.last_session ≡ (side_of old.link true).queue.session → queue.taken ≡ (side_of old.link true).queue.taken
     → queue'.last_session ≡ (side_of new.link true).queue.session → queue'.taken ≡ (side_of new.link true).queue.taken
     → ((judged : List Judged) → HasJudged units unit (known_of old.own) (known_of old.window) queue copies history grants judged
@@ -118,8 +121,10 @@ pub received_served : (units units' : List Unit) (unit : ℕ) (old new : Pair) (
     → SeesAnswers (end_of [] old.link true) queue → SeesAnswers queue' (end_of [] new.link true) → new.own.unit ≡ old.own.unit
     → ((judged : List Judged) → HasJudged units unit (known_of old.own) (known_of old.window) queue copies history grants judged
     → HaveAnswers units unit old.own.unit queue history grants → ∥ HaveAnswers units' unit old.own.unit queue' history' grants' ∥₁)
+    → ((u' : Unit) → slice_get units' unit ≡ Some u' → (u : Unit) × (slice_get units unit ≡ Some u))
+    → ∥ ((lines : LinesMore old.own.unit granted grants grants') × ServesLast old.own.unit old.link new.link lines.more history history') ∥₁
     → IsReceived units copies grants history unit old → IsReceived units' copies' grants' history' unit new
-received_served units units' unit old new queue queue' copies copies' grants grants' history history' session taken session' taken' turn begun behind gone served agrees sees seen name answers is = record {
+received_served units units' unit old new queue queue' copies copies' grants grants' history history' session taken session' taken' turn begun behind gone served agrees sees seen name answers there serves is = record {
   judged = ∥∥₁_elim is.judged ∥∥₁_prop
       (λ before. ∥∥₁_map
       (turn before.0 (judged_seen units units unit (known_of old.own) (known_of old.own) (known_of old.window) (known_of old.window) (end_of [] old.link true) queue copies copies history grants before.0 refl refl
@@ -134,6 +139,18 @@ received_served units units' unit old new queue queue' copies copies' grants gra
   gone = gone;
   served = served;
   agrees = agrees;
+  last = ∥∥₁_elim is.judged ∥∥₁_prop
+      (λ before. ∥∥₁_elim
+      (turn before.0 (judged_seen units units unit (known_of old.own) (known_of old.own) (known_of old.window) (known_of old.window) (end_of [] old.link true) queue copies copies history grants before.0 refl refl
+      (same_seen (known_of old.own) (known_of old.window) (end_of [] old.link true) queue copies grants session taken) before.1)) ∥∥₁_prop
+      (λ after.
+      let judged = judged_seen units' units' unit (known_of new.own) (known_of new.own) (known_of new.window) (known_of new.window) queue' (end_of [] new.link true) copies' copies' history' grants' (before.0 ++ after.0) refl refl
+      (same_seen (known_of new.own) (known_of new.window) queue' (end_of [] new.link true) copies' grants' (sym session') (sym taken')) after.1.0 in
+      ∥∥₁_map₂ serves is.last
+      (λ serves last.
+      subst (λ (id : UnitId). HaveLastGiven units' unit id new.link grants' history') (sym name)
+      (served_received units units' unit old.own.unit old.link new.link grants grants' history history' before.0 (before.0 ++ after.0) there before.1.kept
+      (subst (λ (id : UnitId). HasKept units' unit id (end_of [] new.link true) history' grants' (before.0 ++ after.0)) name judged.kept) serves.0 serves.1 last))));
   answers = ∥∥₁_elim is.judged ∥∥₁_prop
       (λ before. ∥∥₁_elim is.answers ∥∥₁_prop
       (λ owed. ∥∥₁_map
@@ -175,6 +192,8 @@ received_elsewhere units units' k unit other own client copies copies' grants gr
   gone = is.gone;
   served = is.served;
   agrees = agrees_other units units' k (end_of [] other.link true) same is.agrees;
+  last = ∥∥₁_elim rows ∥∥₁_prop
+      (λ only. ∥∥₁_map₂ lines is.last (λ lines last. elsewhere_received units units' k other.own.unit unit other.link grants grants' history history' same apart lines only last));
   answers = ∥∥₁_elim rows ∥∥₁_prop
       (λ only. ∥∥₁_map₂ lines is.answers
       (λ lines owed. answers_elsewhere units units' k unit other.own.unit (end_of [] other.link true) (end_of [] other.link true) history history' grants grants' apart same (sees_same (end_of [] other.link true)) only lines owed));
@@ -207,6 +226,10 @@ received_driven units copies grants history old new driven are k pair found =
       gone = gone_driven from.0 pair d is.gone;
       served = begun_driven from.0 pair d is.served;
       agrees = agrees_like units k (end_of [] from.0.link true) (end_of [] pair.link true) d.server_registered is.agrees;
+      last = ∥∥₁_map₂ is.judged is.last
+          (λ has last.
+          subst (λ (id : UnitId). HaveLastGiven units k id pair.link grants history) (sym (ap (λ (own : WindowValue). own.unit) d.own))
+          (driven_received units k from.0 pair from.0.own.unit grants history has.0 d is.behind has.1.kept is.agrees last));
       answers = ∥∥₁_map is.answers
           (λ owed.
           subst (λ (id : UnitId). HaveAnswers units k id (end_of [] pair.link true) history grants) (sym (ap (λ (own : WindowValue). own.unit) d.own))
@@ -233,13 +256,14 @@ received_fresh units copies grants history pairs none no_lines no_rows waits unu
     },
   ) ∣₁;
   begun = subst AreBegun (sym (fresh k pair found).taken) (All-nil (λ (row : PipeRow). 1 ≤ row.session));
-  behind = behind_none (side_of pair.link true).queue.session (side_of pair.link true).queue.taken (side_of pair.link true).queue.sent (fresh k pair found).taken;
+  behind = behind_none pair.link (fresh k pair found).taken;
   gone = record {
     says = λ event there. absurd (no_event event (sym (fresh k pair found).kept ∙ there));
     gone = λ on. absurd (both_bools (side_of pair.link true).registered on (closed k pair found).server);
   };
   served = record { sent = λ zero. (fresh k pair found).sent; kept = λ zero. (fresh k pair found).event };
   agrees = IfSome_then (slice_get units k) (down k) (λ u is. record { down = λ off. (closed k pair found).server; on = λ up. absurd (up is) });
+  last = ∣ fresh_received units k pair.own.unit pair.link grants history no_lines ∣₁;
   answers = ∣ subst (λ (lines : List Grant). HaveAnswers units k pair.own.unit (end_of [] pair.link true) history lines) (sym no_lines)
       (subst (λ (rows : List Served). HaveAnswers units k pair.own.unit (end_of [] pair.link true) rows []) (sym no_rows) (unowed k pair.own.unit (end_of [] pair.link true))) ∣₁;
 }

@@ -126,4 +126,4 @@ sends_calm shared a b rest sends = counts_calm a b sends.plain rest.kept
 
 -- a call that only sends
 pub puts_sends : (shared : Bool) (a b : EndState) → OnlySends shared a b → SendsMore a b → Announces a b
-puts_sends shared a b rest sends = puts_more a b sends.more rest.kept rest.registered sends.unsent sends.drops
+puts_sends shared a b rest sends = puts_more a b sends.more rest.kept rest.registered rest.last_session sends.unsent sends.drops

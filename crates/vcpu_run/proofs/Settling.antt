@@ -91,7 +91,7 @@ script_at partitions pairs scripts ports id unit plan named =
     held_is (λ partition. IsScriptFor partition script.0) (slice_get partitions id.partition) there.0 there.1 (plan.scripts_are.each id.partition script.0 script.1) in
     (script.0, script.1, ap (λ (seats : List Seat). slice_get seats id.unit) for_it.seats ∙ (slice_get-map seat_of there.0.units id.unit ∙ ap (option_map seat_of) there.2))
 
-servers_home : (partitions : List Partition) (pairs : List Pair) (scripts : List Script) (ports : List PortSeat) (server : UnitId) (i : ℕ) (script : Script)
+pub servers_home : (partitions : List Partition) (pairs : List Pair) (scripts : List Script) (ports : List PortSeat) (server : UnitId) (i : ℕ) (script : Script)
     → IsOfPlan partitions pairs scripts ports → IsServer partitions server → slice_get scripts i ≡ Some script → are_servers script.seats.items ≡ true → i ≡ server.partition
 servers_home partitions pairs scripts ports server i script plan serves there of =
     let own = script_for partitions pairs scripts ports i script plan there in
@@ -109,7 +109,7 @@ no_servers partitions pairs scripts ports server i script plan serves there behi
     at true is = let home = servers_home partitions pairs scripts ports server i script plan serves there is in absurd (omega (arith, home, behind))
 
 -- the script of the server units
-home_serves : (partitions : List Partition) (pairs : List Pair) (scripts : List Script) (ports : List PortSeat) (server : UnitId) (pair : Pair) (script : Script)
+pub home_serves : (partitions : List Partition) (pairs : List Pair) (scripts : List Script) (ports : List PortSeat) (server : UnitId) (pair : Pair) (script : Script)
     → IsOfPlan partitions pairs scripts ports → IsServer partitions server → slice_get pairs server.unit ≡ Some pair → slice_get scripts server.partition ≡ Some script
     → are_servers script.seats.items ≡ true
 home_serves partitions pairs scripts ports server pair script plan serves there at =

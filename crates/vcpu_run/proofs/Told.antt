@@ -21,6 +21,7 @@ use Rattle.vcpu_run.specs.Intake.{EntriesAreFetched}
 use Rattle.vcpu_run.specs.LoginsSent.{LoginsAreAnswered, LoginsAreSent}
 use Rattle.vcpu_run.specs.Machines.{IsOfPlan}
 use Rattle.lan_script.specs.Units.{LanValue}
+use Rattle.vcpu_run.specs.PlainClients.{PlainClientsAreScripted}
 use Rattle.vcpu_run.specs.PortWords.{PortsAreTold}
 use Rattle.vcpu_run.specs.PortsRest.{PortsEnd}
 use Rattle.vcpu_run.specs.Received.{AreAtRest}
@@ -32,6 +33,7 @@ use Rattle.vcpu_run.specs.RunLaw.{CopiesAreLawful, CreditsAreKept, KeepsLawOf, P
 use Rattle.boot_text.specs.declared.plan.Plan.{Plan}
 use Rattle.block_server.specs.Receipts.{GrantsMany}
 use Rattle.vcpu_run.specs.RowsCopied.{LinesAreExplained, RowsAreCopied}
+use Rattle.vcpu_run.specs.WholeLogins.{LastAreHandedOver}
 
 -- a law of traces is kept over each plan that this is the machine of
 abbrev pub Keeps : (List Partition → Trace → Type 0) → List Pair → List Script → List PortSeat → Trace → Type 0
@@ -55,6 +57,7 @@ pub law_told : {E : Type 0} (r : Result Trace E) (o : Option Trace) (pairs : Lis
     → IfOk r (KeepsOnce (AreAtRest copies_made lines history pairs scripts) EntriesAreFetched pairs scripts ports)
     → IfOk r (KeepsOnce (AreAtRest copies_made lines history pairs scripts) RequestsAreServed pairs scripts ports)
     → IfOk r (KeepsOnce (AreAtRest copies_made lines history pairs scripts) AnswersAreGiven pairs scripts ports)
+    → IfOk r (KeepsOnce (AreAnswered history pairs) (λ partitions trace. AreAtRest copies_made lines history pairs scripts → LastAreHandedOver partitions trace) pairs scripts ports)
     → IfOk r (KeepsOnce (AreAtRest copies_made lines history pairs scripts) RowsAreCopied pairs scripts ports)
     → IfOk r (KeepsOnce (AreAtRest copies_made lines history pairs scripts) LinesAreExplained pairs scripts ports)
     → IfOk r (KeepsOnce (AreAnswered history pairs) (λ partitions trace. AreAtRest copies_made lines history pairs scripts → LoginsAreSent partitions trace) pairs scripts ports)
@@ -62,7 +65,7 @@ pub law_told : {E : Type 0} (r : Result Trace E) (o : Option Trace) (pairs : Lis
     → IfOk r (KeepsOnce (PortsEnd lan scripts) (λ partitions trace. AreCredited (copies_at copies_made pairs) pairs scripts → CallsAreSaid partitions trace) pairs scripts ports)
     → AreAtRest copies_made lines history pairs scripts
     → IfSome o (Keeps KeepsLawOf pairs scripts ports)
-law_told (Ok trace) o pairs scripts ports history copies_made lines e order queues copies records over credits are logged refusals said answers answered keeps lan words tells settled handed intake requests given copied explained logins dealt called rests =
+law_told (Ok trace) o pairs scripts ports history copies_made lines e order queues copies records over credits are logged refusals said answers answered keeps lan words tells settled handed intake requests given whole copied explained logins dealt called rests =
     subst (λ (o : Option Trace). IfSome o (Keeps KeepsLawOf pairs scripts ports)) (sym e)
     (λ partitions of_plan. record {
       order = order;
@@ -81,12 +84,13 @@ law_told (Ok trace) o pairs scripts ports history copies_made lines e order queu
       intake = intake partitions of_plan rests;
       requests = requests partitions of_plan rests;
       given = given partitions of_plan rests;
+      whole = whole partitions of_plan answered rests;
       copied = copied partitions of_plan rests;
       explained = explained partitions of_plan rests;
       logins = logins partitions of_plan answered rests;
       dealt = dealt partitions of_plan answered rests;
     })
-law_told (Err error) o pairs scripts ports history copies_made lines e order queues copies records over credits are logged refusals said answers answered keeps lan words tells settled handed intake requests given copied explained logins dealt called rests =
+law_told (Err error) o pairs scripts ports history copies_made lines e order queues copies records over credits are logged refusals said answers answered keeps lan words tells settled handed intake requests given whole copied explained logins dealt called rests =
     subst (λ (o : Option Trace). IfSome o (Keeps KeepsLawOf pairs scripts ports)) (sym e) tt
 
 -- the rows that were served
@@ -100,7 +104,12 @@ pub said_told : {E : Type 0} (r : Result Trace E) (o : Option Trace) (P : Trace 
 said_told (Ok told) o P e is = subst (λ (o : Option Trace). IfSome o P) (sym e) is
 said_told (Err error) o P e is = subst (λ (o : Option Trace). IfSome o P) (sym e) tt
 
+pub each_told : {E : Type 0} (r : Result Trace E) (P Q : Trace → Type 0) → ((trace : Trace) → P trace → Q trace) → IfOk r P → IfOk r Q
+each_told (Ok told) P Q step is = step told is
+each_told (Err error) P Q step is = tt
+
 -- the law of a run of a plan
-pub law_of_plan : (o : Option Trace) (plan : Plan) → IfSome o (KeepsLawOf plan.partitions) → IfSome o (λ trace. All (GrantsMany plan.grant) trace.grants) → IfSome o (KeepsLaw plan)
-law_of_plan None plan law grants = tt
-law_of_plan (Some trace) plan law grants = record { law = law; grants = grants }
+pub law_of_plan : (o : Option Trace) (plan : Plan) → IfSome o (KeepsLawOf plan.partitions) → IfSome o (λ trace. All (GrantsMany plan.grant) trace.grants)
+    → IfSome o (PlainClientsAreScripted plan.grant plan.partitions) → IfSome o (KeepsLaw plan)
+law_of_plan None plan law grants scripted = tt
+law_of_plan (Some trace) plan law grants scripted = record { law = law; grants = grants; scripted = scripted }

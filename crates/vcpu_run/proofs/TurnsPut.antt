@@ -61,7 +61,7 @@ send_puts shared old new entry send.NotRegistered rest h may = puts_reserves old
 send_puts shared old new entry send.Parameter rest h may = absurd h
 
 take_puts : (shared : Bool) (old new : EndState) → OnlyTakes shared old new → Announces old new
-take_puts shared old new rest = puts_none old new rest.sent rest.kept rest.registered (stay_same old.drops new.drops rest.drops)
+take_puts shared old new rest = puts_none old new rest.sent rest.kept rest.registered rest.last_session (stay_same old.drops new.drops rest.drops)
 
 step_puts : (line : ℕ) (step : LoginStep) (a b : Site) → a.at.crq_shared ≡ false → Steps line step a b → SameHands a b → StepsPut a b
 step_puts line (Registered answer) a b alone h hands =

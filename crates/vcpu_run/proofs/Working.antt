@@ -169,7 +169,7 @@ take_works cs os end end' own own' driver driver' client result unit is taken la
   place = crq.place;
   session = crq.counts.same_session;
   stays = λ none. frees_none end end' crq.last_session crq.registered;
-  puts = λ alone. puts_none end end' crq.sent crq.kept crq.registered (stay_same end.drops end'.drops crq.drops);
+  puts = λ alone. puts_none end end' crq.sent crq.kept crq.registered crq.last_session (stay_same end.drops end'.drops crq.drops);
   calm = λ none. calm_same end end' crq.sent crq.kept;
   window = keeps_reads os own own' rest;
   lays = reads_none_laid os own own' rest;

@@ -35,13 +35,14 @@ abbrev pub KeepsEvent : Option Entry → Type 0
 KeepsEvent kept = (event : Entry) → kept ≡ Some event → first_byte event ≡ 0xFF
 
 -- More was put behind what was put before. While the partner's queue is registered an event that was kept is kept or was put,
--- and where the own queue was freed an event tells of it; where it is not registered, and none tells of it, events alone were put. Each
+-- and where the own queue was freed an event tells of it, registered again or not; where it is not registered, and none tells of it, events alone were put. Each
 -- record of a drop is there still.
 pub record Announces (old new : EndState) : Type 0 where
   pub rows : List PipeRow
   pub sent : new.sent ≡ old.sent ++ rows
   pub kept : (event : Entry) → IsKept event old.registered old.kept → old.place.partner_registered ≡ true → IsOnItsWay event rows new
   pub freed : old.registered ≡ true → new.registered ≡ false → old.place.partner_registered ≡ true → IsAnnounced rows new
+  pub renewed : old.registered ≡ true → old.place.partner_registered ≡ true → (new.last_session ≡ old.last_session) ⊎ IsAnnounced rows new
   pub says : KeepsEvent old.kept → KeepsEvent new.kept
   pub off : KeepsEvent old.kept → new.registered ≡ false → old.place.partner_registered ≡ true → HaveEvents rows ⊎ IsAnnounced rows new
   pub drops : DropsStay old.drops new.drops

@@ -1,5 +1,5 @@
 -- Which responses the queue of a pair's client got between turns, by the rows of its server unit (SRP, "SRP_RSP response").
-use Rattle.std.specs.Prelude.{◌≡◌, ◌≤◌, ℕ, false, true, All, List, Some, length, slice_get}
+use Rattle.std.specs.Prelude.{◌≡◌, ◌<◌, ◌≤◌, ℕ, false, true, All, List, Some, length, slice_get}
 use Rattle.vio_num.specs.declared.history.Served.{Served}
 use Rattle.crq_ring.specs.declared.rows.PipeRow.{PipeRow}
 use Rattle.crq_session.specs.Answered.{received_now, taken_now}
@@ -12,9 +12,10 @@ use Rattle.vcpu_run.specs.declared.pair.Pair.{Pair}
 abbrev pub AreBegun : List PipeRow → Type 0
 AreBegun rows = All (λ row. 1 ≤ row.session) rows
 
--- of what was received in the session no more was taken
-abbrev pub IsBehind : EndState → Type 0
-IsBehind end = length (taken_now end) ≤ length (received_now end)
+-- What was taken in the session is a front of what was received in it.
+pub record IsBehind (end : EndState) : Type 0 where
+  pub low : length (taken_now end) ≤ length (received_now end)
+  pub same : (k : ℕ) → k < length (taken_now end) → slice_get (received_now end) k ≡ slice_get (taken_now end) k
 
 -- Rows were put into the partner's queue in sessions alone, and taken from the own; and the partner's is in one where it is
 -- registered.

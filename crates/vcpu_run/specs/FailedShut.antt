@@ -48,9 +48,13 @@ pub record HasFailed (lines : List Line) (ended : ℕ) : Type 0 where
 abbrev pub IsFailed : Script → Type 0
 IsFailed script = HasFailed script.lines.now (length script.logs.items)
 
--- While a line is left none that ended fails the partition; where one does, no client's queue is registered.
+-- while a line is left, none that ended fails the partition
+abbrev pub FailsLast : Script → Type 0
+FailsLast script = (line : Line) → slice_get script.lines.now script.at ≡ Some line → ¬ (IsFailed script)
+
+-- A line that fails the partition ends last; where one ended, no client's queue is registered.
 pub record IsDown (pairs : List Pair) (script : Script) : Type 0 where
-  pub going : (line : Line) → slice_get script.lines.now script.at ≡ Some line → ¬ (IsFailed script)
+  pub going : FailsLast script
   pub shut : IsFailed script → SeatsShut script.seats.items pairs
 
 -- Behind this place among lines on logins one ends this login of a unit.

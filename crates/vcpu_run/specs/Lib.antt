@@ -26,6 +26,7 @@ pub mod DropsStay
 pub mod EventsHeard
 pub mod EventsMade
 pub mod EventsPut
+pub mod FailedPorts
 pub mod FailedShut
 pub mod FewEvents
 pub mod Freed
@@ -36,6 +37,7 @@ pub mod Grants
 pub mod Heard
 pub mod Holding
 pub mod Intake
+pub mod LastGiven
 pub mod Lines
 pub mod LinesRead
 pub mod LinesShow
@@ -51,6 +53,13 @@ pub mod Numbered
 pub mod OnDisk
 pub mod Pairs
 pub mod PlainClients
+pub mod PlainPairs
+pub mod PlainRows
+pub mod PlainRuns
+pub mod PlainScripts
+pub mod PlainSeated
+pub mod PlainSteps
+pub mod PlainTalk
 pub mod PortBytes
 pub mod PortCalls
 pub mod PortMacs
@@ -89,5 +98,6 @@ pub mod Takings
 pub mod Telling
 pub mod Units
 pub mod ValuesPut
+pub mod WholeLogins
 pub mod Windows
 pub mod Works

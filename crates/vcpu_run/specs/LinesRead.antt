@@ -34,8 +34,8 @@ abbrev pub seen_of : RegionSeen → Seen
 seen_of region = record { stroke_at = region.stroke_at; front_at = region.front_at; value_at = λ entry value. ⊤; entry_put = λ entry. ⊤ }
 
 -- Where the data-in of the commands under each tag were to lie.
-abbrev pub Asked : Type 1
-Asked = (tag : ℕ) → DataRange → Type 0
+abbrev pub AskedOf : Type 1
+AskedOf = (tag : ℕ) → DataRange → Type 0
 
 -- a range, cut to what a response says was transferred
 abbrev pub cut_by : Response → DataRange → DataRange
@@ -43,7 +43,7 @@ cut_by response whole = record { at = whole.at; len = transferred whole.len (sai
 
 -- A response of this tag was read by then, as fronts of these strokes; and where a command was sent under the tag, the range is where its data were to lie,
 -- cut to what this response says was transferred.
-pub record IsAnsweredIn (strokes : ℕ → Option (List StrokeValue)) (asked : Asked) (tag : ℕ) (range : DataRange) : Type 0 where
+pub record IsAnsweredIn (strokes : ℕ → Option (List StrokeValue)) (asked : AskedOf) (tag : ℕ) (range : DataRange) : Type 0 where
   pub row : AnswerRow
   pub tag_is : row.tag ≡ tag
   pub response : Response
@@ -52,18 +52,18 @@ pub record IsAnsweredIn (strokes : ℕ → Option (List StrokeValue)) (asked : A
   pub range_is : (whole : DataRange) → asked tag whole → range ≡ cut_by response whole
 
 -- What is said of the data of a tag is so of their range, by the strokes of the server unit under this tag, which was answered by then.
-pub record IsDataIn (server : UnitId) (strokes : ℕ → Option (List StrokeValue)) (asked : Asked) (tag : ℕ) (outcome : Outcome) : Type 0 where
+pub record IsDataIn (server : UnitId) (strokes : ℕ → Option (List StrokeValue)) (asked : AskedOf) (tag : ℕ) (outcome : Outcome) : Type 0 where
   pub range : DataRange
   pub told : IsDataTold (seen_of (region_seen strokes)) (record { who = server; mark = tag }) range outcome
   pub answered : IsAnsweredIn strokes asked tag range
 
-abbrev pub IsDataInIf : (server : UnitId) → (ℕ → Option (List StrokeValue)) → Asked → (tag : ℕ) → Outcome → Type 0
+abbrev pub IsDataInIf : (server : UnitId) → (ℕ → Option (List StrokeValue)) → AskedOf → (tag : ℕ) → Outcome → Type 0
 IsDataInIf server strokes asked tag (outcomes.Data len total) = IsDataIn server strokes asked tag (outcomes.Data len total)
 IsDataInIf server strokes asked tag (outcomes.Stale page) = IsDataIn server strokes asked tag (outcomes.Stale page)
 IsDataInIf server strokes asked tag _ = ⊤
 
 -- what a line that logs in, or gives the data of a tag, says that it read was read in the region
-abbrev pub IsLineRead : (server : UnitId) → (ℕ → Option (List StrokeValue)) → Asked → Verb → Outcome → Type 0
+abbrev pub IsLineRead : (server : UnitId) → (ℕ → Option (List StrokeValue)) → AskedOf → Verb → Outcome → Type 0
 IsLineRead server strokes asked verbs.Login outcome = IsAnswerRead (region_seen strokes) outcome
 IsLineRead server strokes asked verbs.Reset outcome = IsAnswerRead (region_seen strokes) outcome
 IsLineRead server strokes asked (verbs.Data tag) outcome = IsDataInIf server strokes asked tag outcome
@@ -94,7 +94,7 @@ pub record ClientLines (server : UnitId) (strokes : ℕ → Option (List StrokeV
   pub counted : CopiesCounted who told.had rows most named
 
 -- while a run goes on: where the data lie of the commands that a client sent, and that it keeps those of its lines that have a record
-abbrev pub asked_by : Option Driver → Asked
+abbrev pub asked_by : Option Driver → AskedOf
 asked_by driver tag whole = IsSomeAnd driver (λ driver. IsInwardAt driver.client.rows tag whole.at whole.len)
 
 abbrev pub AreKept : (unit : ℕ) → List Line → List LogRow → List Row → Type 0

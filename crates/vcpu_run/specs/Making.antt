@@ -12,6 +12,7 @@ use Rattle.vcpu_run.specs.declared.pair.Pair.{Pair}
 use Rattle.vcpu_run.specs.declared.script.Script.{Script}
 use Rattle.vcpu_run.specs.Agreed.{AreLoggedOut, IsCredited}
 use Rattle.vcpu_run.specs.Machines.{IsScriptFor}
+use Rattle.vcpu_run.specs.PlainScripts.{StandsPlainly, StartsAnew}
 use Rattle.vcpu_run.specs.PortSteps.{AreFresh}
 use Rattle.vcpu_run.specs.PortWords.{TellsPorts}
 use Rattle.vcpu_run.specs.Scripts.{AreSeats, IsScript}
@@ -44,7 +45,8 @@ pub record IsSeatAt (unit : UnitPlan) (id server : UnitId) (seat : ClientSeat) :
   pub client : unit ≡ kinds.Client server seat.pages seat.queue
 
 -- A script was made for a partition: once its clients sit at their pairs, it is whole, its records keep the credits of clients
--- that are not logged in, such clients agree with them, and they tell what ports did that did nothing.
+-- that are not logged in, such clients agree with them, they tell what ports did that did nothing, and each client that has done nothing
+-- stands before its first line.
 pub record IsMade (partition : Partition) (number : ℕ) (script : Script) : Type 0 where
   pub number_is : script.partition ≡ number
   pub for_it : IsScriptFor partition script
@@ -53,6 +55,7 @@ pub record IsMade (partition : Partition) (number : ℕ) (script : Script) : Typ
   pub said : (pairs : List Pair) → AreLoggedOut script.seats.items pairs → AreUntaken pairs → IsScriptTold pairs script
   pub told : (lan : LanValue) → AreFresh lan → TellsPorts lan script
   pub fresh : script.logs.items ≡ []
+  pub plainly : (granted u : ℕ) (pair : Pair) → StartsAnew pair → StandsPlainly granted u script pair
 
 -- The scripts were made for the partitions.
 pub record AreMade (partitions : List Partition) (scripts : List Script) : Type 0 where

@@ -12,7 +12,7 @@ use Rattle.block_server.specs.Makers.{same_unit}
 use Rattle.block_server.specs.Receipts.{unit_of}
 use Rattle.boot_text.specs.Sound.{IsClientOf}
 use Rattle.boot_text.specs.declared.plan.Line.{Line}
-use Rattle.boot_text.specs.declared.plan.Plan.{Plan}
+use Rattle.boot_text.specs.declared.plan.Partition.{Partition}
 use Rattle.boot_text.specs.declared.verb.Verb.{Verb}
 use Rattle.boot_text.specs.declared.verb.Verb.TheVariants as verbs
 use Rattle.vio_trace.specs.declared.rows.Trace.{Trace}
@@ -79,13 +79,13 @@ HaveOtherTags a b = field 8 8 a.iu ≢ field 8 8 b.iu
 
 -- A client's records are those of the replay of its lines; of its server unit each login ends by its client alone, and no two rows
 -- have one tag. (That no line of it ends as unanswered follows: the replay of a login says otherwise.)
-pub record IsAsScripted (plan : Plan) (trace : Trace) (server client : UnitId) : Type 0 where
-  pub records : IsReplayed plan.grant (pages_at plan.partitions client) before_lines
-      (ended_by client.unit (script_of plan.partitions client.partition) (records_of trace client.partition))
+pub record IsAsScripted (grant : ℕ) (partitions : List Partition) (trace : Trace) (server client : UnitId) : Type 0 where
+  pub records : IsReplayed grant (pages_at partitions client) before_lines
+      (ended_by client.unit (script_of partitions client.partition) (records_of trace client.partition))
   pub logins : All (λ grant. same_unit (unit_of grant) server ≡ true → ends_by_client grant ≡ true) trace.grants
   pub tags : AllPairs HaveOtherTags (filter (λ row. same_unit row.unit server) trace.serves)
 
--- Each plain client is as scripted.
-abbrev pub PlainClientsAreScripted : Plan → Trace → Type 0
-PlainClientsAreScripted plan trace = (client server : UnitId) → IsClientOf plan.partitions client server
-    → IsPlainClient client.unit (script_of plan.partitions client.partition) → IsAsScripted plan trace server client
+-- Each plain client of the plan's partitions is as scripted, where a login grants so many requests.
+abbrev pub PlainClientsAreScripted : (grant : ℕ) → List Partition → Trace → Type 0
+PlainClientsAreScripted grant partitions trace = (client server : UnitId) → IsClientOf partitions client server
+    → IsPlainClient client.unit (script_of partitions client.partition) → IsAsScripted grant partitions trace server client

@@ -26,6 +26,7 @@ use Rattle.vcpu_run.specs.declared.script.Script.{Script}
 use Rattle.vcpu_run.specs.declared.unit_seat.Seat.TheVariants as sits
 use Rattle.vcpu_run.specs.Among.{AreAmong}
 use Rattle.vcpu_run.specs.Credited.{Ended, ended_by}
+use Rattle.vcpu_run.specs.FailedPorts.{TellsClosed}
 use Rattle.vcpu_run.specs.Ports.{IsPortOf, ports_of, unit_of}
 use Rattle.vcpu_run.specs.PortCalls.{TellsEntries}
 use Rattle.vcpu_run.specs.PortBytes.{KeepsBytes, NamesOwnPages, bytes_told}
@@ -300,6 +301,7 @@ pub record TellsPorts (lan : LanValue) (script : Script) : Type 0 where
   pub replay : TellsReplay lan script
   pub offers : TellsOffers lan script
   pub fit : TellsFit lan script
+  pub closes : TellsClosed lan script
 
 -- the same of all scripts
 abbrev pub PortsTell : LanValue → List Script → Type 0

@@ -19,6 +19,7 @@ use Rattle.vcpu_run.specs.EventsMade.{events_at}
 use Rattle.vcpu_run.specs.Gone.{IsToldOfGone}
 use Rattle.vcpu_run.specs.Heard.{AreHeard}
 use Rattle.vcpu_run.specs.Holding.{KeepQueues}
+use Rattle.vcpu_run.specs.LastGiven.{HaveLastGiven}
 use Rattle.vcpu_run.specs.Lines.{IsOver}
 use Rattle.vcpu_run.specs.Links.{AreIdle}
 use Rattle.vcpu_run.specs.Machines.{server_id}
@@ -32,7 +33,8 @@ HasEntries units copies grants history k pair judged =
 
 -- Server unit k has a receipt and a fate for each entry that it took, its rows are those of its requests, it took all in sessions, and
 -- each of its rows has its answer, is to have it, or is cut off; it was told where its client is gone, and takes its own queue for
--- registered exactly where it is; and it put nothing before its queue's first session.
+-- registered exactly where it is; it put nothing before its queue's first session; and the answers of a login that goes on, and of those behind, were put into the client's
+-- present session.
 pub record IsReceived (units : List Unit) (copies : List CopyRecord) (grants : List Grant) (history : List Served) (k : ℕ) (pair : Pair) : Type 0 where
   pub judged : ∥ ((judged : List Judged) × HasEntries units copies grants history k pair judged) ∥₁
   pub begun : AreBegun (side_of pair.link true).queue.taken
@@ -41,6 +43,7 @@ pub record IsReceived (units : List Unit) (copies : List CopyRecord) (grants : L
   pub gone : IsToldOfGone (end_of [] pair.link true)
   pub agrees : AgreesAt units k (end_of [] pair.link true)
   pub served : HasBegun (end_of [] pair.link true)
+  pub last : ∥ HaveLastGiven units k pair.own.unit pair.link grants history ∥₁
 
 abbrev pub AreReceived : List Unit → List CopyRecord → List Grant → List Served → List Pair → Type 0
 AreReceived units copies grants history pairs = (k : ℕ) (pair : Pair) → slice_get pairs k ≡ Some pair → IsReceived units copies grants history k pair

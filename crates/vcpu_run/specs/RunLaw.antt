@@ -1,6 +1,6 @@
 -- The law of a run, so far as it is proved: what its trace says of its queues, its copies and windows, its
 -- records, the credits and the refusals that they tell of, the strokes of clients in their own regions, the answers that were sent, its LAN ports and what is told of them, how it ends, what its server units took in,
--- which of it they served, that each of that has its answer, and which copies moved its answer and its data, and how its requests to log in were answered.
+-- which of it they served, that each of that has its answer, that clients' queues handed over the answers of logins that no line cuts off, and which copies moved its answer and its data, and how its requests to log in were answered.
 use Rattle.std.specs.Prelude.{◌≡◌, ◌⊎◌, ℕ, ◌+◌, ◌*◌, ◌<◌, ◌≤◌, List, [], ◌∷◌, All, Some, None, length, map}
 use Rattle.std.specs.List.{AllPairs}
 use Rattle.vio_num.specs.Queue.{Handed, LawfulDrop}
@@ -30,6 +30,7 @@ use Rattle.vcpu_run.specs.Credited.{KeepsCredit, ended_by}
 use Rattle.vcpu_run.specs.Intake.{EntriesAreFetched}
 use Rattle.vcpu_run.specs.Lines.{numbers_to_fail}
 use Rattle.vcpu_run.specs.LoginsSent.{LoginsAreAnswered, LoginsAreSent}
+use Rattle.vcpu_run.specs.PlainClients.{PlainClientsAreScripted}
 use Rattle.vcpu_run.specs.Ports.{ports_of}
 use Rattle.vcpu_run.specs.PortWords.{PortsAreTold}
 use Rattle.vcpu_run.specs.StrokeMakers.{StrokesAreMade, versions_named}
@@ -38,6 +39,7 @@ use Rattle.vcpu_run.specs.Requests.{RequestsAreServed}
 use Rattle.vcpu_run.specs.RowsCopied.{LinesAreExplained, RowsAreCopied}
 use Rattle.vcpu_run.specs.Settled.{ClientsAreSettled, ServersAreSettled, script_of}
 use Rattle.vcpu_run.specs.Shown.{pages_at, puts_into, records_of, sessions_of, strokes_on, window_shown}
+use Rattle.vcpu_run.specs.WholeLogins.{LastAreHandedOver}
 
 -- so many slots, 256 for each page of a unit's queue
 abbrev pub HasSlots : ℕ → UnitPlan → Type 0
@@ -134,12 +136,14 @@ pub record KeepsLawOf (partitions : List Partition) (trace : Trace) : Type 0 whe
   pub intake : EntriesAreFetched partitions trace
   pub requests : RequestsAreServed partitions trace
   pub given : AnswersAreGiven partitions trace
+  pub whole : LastAreHandedOver partitions trace
   pub copied : RowsAreCopied partitions trace
   pub explained : LinesAreExplained partitions trace
   pub logins : LoginsAreSent partitions trace
   pub dealt : LoginsAreAnswered partitions trace
 
--- And each login that a line says was granted grants as many requests as the plan says.
+-- And each login that a line says was granted grants as many requests as the plan says, and each plain client did exactly what its script says.
 pub record KeepsLaw (plan : Plan) (trace : Trace) : Type 0 where
   pub law : KeepsLawOf plan.partitions trace
   pub grants : All (GrantsMany plan.grant) trace.grants
+  pub scripted : PlainClientsAreScripted plan.grant plan.partitions trace

@@ -1,8 +1,9 @@
 // The trace of what a machine did.
-ghost use Rattle.std.specs.Prelude.{◌≡◌, ◌++◌, ◌≤◌, List, All, IfOk, OnOk, length, map};
+ghost use Rattle.std.specs.Prelude.{◌≡◌, ◌++◌, ◌≤◌, ℕ, List, All, IfOk, OnOk, length, map};
 ghost use Rattle.std.specs.List.{flat_map};
 ghost use Rattle.std.specs.Option.{option_map};
 ghost use Rattle.vcpu_run.specs.Gathered.{logs_of, sessions_at, answer_by, answers_at, values_at, marks_at, copies_of, driver_of, queue_at, window_at, FitsPort, IsFree, IsGathered, HasLawfulQueue, HasLawfulWindow};
+ghost use Rattle.block_server.specs.declared.unit.Unit.{Unit};
 ghost use Rattle.boot_text.specs.declared.plan.Partition.{Partition};
 ghost use Rattle.vio_trace.specs.Form.{IsInOrder};
 ghost use Rattle.vcpu_run.specs.Agreed.{AreCredited};
@@ -17,6 +18,9 @@ ghost use Rattle.vcpu_run.specs.LoginsSent.{LoginsAreAnswered, LoginsAreSent};
 ghost use Rattle.vcpu_run.specs.Machines.{AreScripts, IsOfPlan};
 ghost use Rattle.vcpu_run.specs.Intake.{EntriesAreFetched};
 ghost use Rattle.vcpu_run.specs.Pairs.{AreOfOneHome};
+ghost use Rattle.vcpu_run.specs.PlainClients.{PlainClientsAreScripted};
+ghost use Rattle.vcpu_run.specs.PlainPairs.{books_of};
+ghost use Rattle.vcpu_run.specs.PlainRuns.{ArePlain};
 ghost use Rattle.vcpu_run.specs.PortWords.{PortsAreTold};
 ghost use Rattle.vcpu_run.specs.PortsRest.{PortsEnd};
 ghost use Rattle.vcpu_run.specs.Received.{AreAtRest};
@@ -26,6 +30,7 @@ ghost use Rattle.vcpu_run.specs.RowsCopied.{LinesAreExplained, RowsAreCopied};
 ghost use Rattle.vcpu_run.specs.ScriptTold.{AreTold};
 ghost use Rattle.vcpu_run.specs.Units.{seats_of};
 ghost use Rattle.vcpu_run.specs.Settled.{ClientsAreSettled, ServersAreSettled};
+ghost use Rattle.vcpu_run.specs.WholeLogins.{LastAreHandedOver};
 ghost use Rattle.vcpu_run.specs.RunLaw.{CopiesAreLawful, CreditsAreKept, PortsKeepLaw, QueuesAreLawful, RecordsAreOfLines};
 
 use crate::copying::put_copies;
@@ -119,6 +124,11 @@ pub(crate) fn gather(
         IsOfPlan partitions pairs.items scripts.entry.items lan.seats →
         AreAtRest copies.items grants.items history.items pairs.items scripts.entry.items →
         AnswersAreGiven partitions trace) }
+    ensures whole { IfOk result (λ trace. (partitions : List Partition) →
+        IsOfPlan partitions pairs.items scripts.entry.items lan.seats →
+        AreAnswered history.items pairs.items →
+        AreAtRest copies.items grants.items history.items pairs.items scripts.entry.items →
+        LastAreHandedOver partitions trace) }
     ensures copied { IfOk result (λ trace. (partitions : List Partition) →
         IsOfPlan partitions pairs.items scripts.entry.items lan.seats →
         AreAtRest copies.items grants.items history.items pairs.items scripts.entry.items →
@@ -140,6 +150,12 @@ pub(crate) fn gather(
     ensures shown { IfOk result (λ trace. (partitions : List Partition) →
         IsOfPlan partitions pairs.items scripts.entry.items lan.seats →
         IsShownAll partitions trace copies.items pairs.items) }
+    ensures plainly { IfOk result (λ trace. (partitions : List Partition) →
+        IsOfPlan partitions pairs.items scripts.entry.items lan.seats →
+        AreAtRest copies.items grants.items history.items pairs.items scripts.entry.items →
+        (granted home : ℕ) (units : List Unit) →
+        ArePlain granted home (books_of units grants.items history.items)
+        pairs.items scripts.entry.items → PlainClientsAreScripted granted partitions trace) }
 {
     rows_of(alloc, pairs, scripts, lan, history, grants, copies)
 }

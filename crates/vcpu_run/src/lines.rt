@@ -1,5 +1,5 @@
 // What a script line does at its client unit.
-ghost use Rattle.std.specs.Prelude.{◌≡◌, ◌⊎◌, ◌≤◌, [], Bool, IfErr, IfOk, None, OnOk, true, false, ℕ, Some, length};
+ghost use Rattle.std.specs.Prelude.{◌≡◌, ◌⊎◌, ◌≤◌, [], Bool, IfErr, IfOk, IsErr, None, OnOk, true, false, ℕ, Some, length};
 ghost use Rattle.std.specs.List.{sum};
 ghost use Rattle.srp_desc.specs.declared.pieces.TheConstants.{MAX_DATA_LEN};
 ghost use Rattle.crq_session.specs.EndState.{EndState};
@@ -24,13 +24,14 @@ ghost use Rattle.vcpu_run.specs.Sendings.{SaysSent, SaysTurned, SaysWhy};
 ghost use Rattle.vcpu_run.specs.Commands.{IsOpOf, cdb_of};
 ghost use Rattle.vcpu_run.specs.LinesShow.{LogsIn, StepShows, further_of, read_by, requests, seen_by, seen_since, written_by};
 ghost use Rattle.vio_num.specs.declared.names.UnitId.{UnitId as UnitValue};
+ghost use Rattle.vcpu_run.specs.PlainSteps.{LogsInPlainly, StepsPlainly, own_by};
 ghost use Rattle.vcpu_run.specs.Replay.{asks, ranges_of};
 ghost use Rattle.vcpu_run.specs.Takings.{Gives, StepsTaken};
 ghost use Rattle.vcpu_run.specs.Telling.{LeavesOut, StepsOut, StepsTold, seated};
 ghost use Rattle.vcpu_run.specs.declared.script.Progress.{Progress as ProgressValue};
 ghost use Rattle.vcpu_run.specs.declared.script.Progress.TheVariants as stages;
 ghost use Rattle.vcpu_run.specs.ValuesPut.{StepPuts};
-ghost use Rattle.vcpu_run.specs.Works.{IsUnitVerb, Works, sends};
+ghost use Rattle.vcpu_run.specs.Works.{IsUnitVerb, Works};
 ghost use Rattle.unit_region.specs.Kept.{KeepsWindow};
 ghost use Rattle.unit_region.specs.Marks.{LaysNoStroke};
 
@@ -50,6 +51,7 @@ use vscsi_client::{DataFault, LoginTurn, Op, Refused};
 fn sent(answer: Result<u64, Refused>) -> Result<Step, NoMemory>
     ensures sent { SaysSent answer result }
     ensures why { IfErr answer (λ why. SaysWhy why result) }
+    ensures memory { IfErr answer (λ why. why ≡ Refused.NoMemory → IsErr result) }
 {
     let outcome = match answer {
         Ok(tag) => Outcome::Sent(tag),
@@ -131,6 +133,9 @@ impl Driver {
         ensures values { (O.state own.new).values ≡ (O.state own.old).values }
         ensures credit { (verb : VerbValue) →
             StepsAgreed verb 0 0 self.old.client self.new.client result }
+        ensures plainly { C.is_shared ≡ false → O.is_shared ≡ false → LogsInPlainly
+            (own_by self.old.client (C.state crq.old.end) (O.state own.old))
+            (own_by self.new.client (C.state crq.new.end) (O.state own.new)) result }
     {
         let turn = self.client.login_turn(crq, own, line)?;
         Ok(turned(turn, crq.moved()))
@@ -177,6 +182,10 @@ impl Driver {
             (C.state crq.old.end) (C.state crq.new.end)) }
         ensures hears { StepHears result self.old.client self.new.client
             (C.state crq.old.end) (C.state crq.new.end) }
+        ensures plainly { C.is_shared ≡ false → O.is_shared ≡ false →
+            StepsPlainly verbs.Reset progress.old progress.new
+            (own_by self.old.client (C.state crq.old.end) (O.state own.old))
+            (own_by self.new.client (C.state crq.new.end) (O.state own.new)) result }
     {
         if *progress == Progress::Freed {
             return self.login(crq, own, line);
@@ -211,6 +220,9 @@ impl Driver {
         ensures reads { O.is_shared ≡ false → (shared : Bool) (end : EndState) →
             IfOk result (StepReads (seen_by shared (O.state own.new) end)
             self.old.client (verbs.Data tag)) }
+        ensures plainly { O.is_shared ≡ false → (end : EndState) (p : ProgressValue) →
+            StepsPlainly (verbs.Data tag) p p (own_by self.old.client end (O.state own.old))
+            (own_by self.new.client end (O.state own.new)) result }
     {
         match self.client.data_of(own, tag) {
             Ok(bytes) => Ok(Step::Ends(Outcome::Data {
@@ -262,6 +274,10 @@ impl Driver {
             (C.state crq.old.end) (C.state crq.new.end)) }
         ensures hears { StepHears result self.old.client self.new.client
             (C.state crq.old.end) (C.state crq.new.end) }
+        ensures plainly { C.is_shared ≡ false → O.is_shared ≡ false →
+            (verb : VerbValue) (p : ProgressValue) → IsOpOf verb op.now → StepsPlainly verb p p
+            (own_by self.old.client (C.state crq.old.end) (O.state own.old))
+            (own_by self.new.client (C.state crq.new.end) (O.state own.new)) result }
     {
         sent(self.client.submit(crq, own, op, line))
     }
@@ -299,6 +315,10 @@ impl Driver {
             (C.state crq.old.end) (C.state crq.new.end)) }
         ensures hears { StepHears result self.old.client self.new.client
             (C.state crq.old.end) (C.state crq.new.end) }
+        ensures plainly { C.is_shared ≡ false → O.is_shared ≡ false →
+            (p : ProgressValue) → StepsPlainly (verbs.Task function tag) p p
+            (own_by self.old.client (C.state crq.old.end) (O.state own.old))
+            (own_by self.new.client (C.state crq.new.end) (O.state own.new)) result }
     {
         sent(self.client.task(crq, own, function, tag, line))
     }
@@ -333,6 +353,10 @@ impl Driver {
             (C.state crq.old.end) (C.state crq.new.end)) }
         ensures hears { StepHears result self.old.client self.new.client
             (C.state crq.old.end) (C.state crq.new.end) }
+        ensures plainly { C.is_shared ≡ false → O.is_shared ≡ false →
+            (p : ProgressValue) → StepsPlainly verbs.Logout p p
+            (own_by self.old.client (C.state crq.old.end) (O.state own.old))
+            (own_by self.new.client (C.state crq.new.end) (O.state own.new)) result }
     {
         sent(self.client.logout(crq, own, line))
     }
@@ -363,6 +387,10 @@ impl Driver {
             (C.state crq.old.end) (C.state crq.new.end)) }
         ensures hears { StepHears result self.old.client self.new.client
             (C.state crq.old.end) (C.state crq.new.end) }
+        ensures plainly { C.is_shared ≡ false → O.is_shared ≡ false →
+            StepsPlainly (verbs.Take count) progress.old progress.new
+            (own_by self.old.client (C.state crq.old.end) (O.state own.old))
+            (own_by self.new.client (C.state crq.new.end) (O.state own.new)) result }
     {
         let mut taken = progress.taken();
         let step = self.take(crq, own, count, &mut taken)?;
@@ -421,6 +449,10 @@ impl Driver {
             (C.state crq.old.end) (C.state crq.new.end)) }
         ensures hears { StepHears result self.old.client self.new.client
             (C.state crq.old.end) (C.state crq.new.end) }
+        ensures plainly { C.is_shared ≡ false → O.is_shared ≡ false →
+            StepsPlainly line.now.verb progress.old progress.new
+            (own_by self.old.client (C.state crq.old.end) (O.state own.old))
+            (own_by self.new.client (C.state crq.new.end) (O.state own.new)) result }
     {
         let mark = u64::from(line.number);
         if let Some(op) = op_of(&line.verb) {

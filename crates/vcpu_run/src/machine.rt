@@ -1,9 +1,10 @@
 // The machine: its making, its rounds, and how it settles.
-ghost use Rattle.std.specs.Prelude.{◌≡◌, [], All, IfErr, IfOk, IfSome, IsSome, List, OnOk, vec_len};
+ghost use Rattle.std.specs.Prelude.{◌≡◌, ℕ, [], All, IfErr, IfOk, IfSome, IsSome, List, OnOk, vec_len};
 ghost use Rattle.boot_text.specs.Sound.{AreSound, IsSound};
 ghost use Rattle.boot_text.specs.declared.plan.Partition.{Partition};
 ghost use Rattle.block_server.specs.Units.{GrantEach};
 ghost use Rattle.block_server.specs.DiskLaw.{KeepsDisk};
+ghost use Rattle.block_server.specs.declared.unit.Unit.{Unit};
 ghost use Rattle.vcpu_run.specs.Agreed.{AreCredited};
 ghost use Rattle.vcpu_run.specs.CopiesCounted.{copies_at};
 ghost use Rattle.vcpu_run.specs.Caused.{IsShownAll, KeepsCaused, LeadsCaused};
@@ -16,6 +17,9 @@ ghost use Rattle.vcpu_run.specs.Links.{AreLinked};
 ghost use Rattle.vcpu_run.specs.Machines.{AreScripts, IsMachine, IsOfPlan};
 ghost use Rattle.vcpu_run.specs.OnDisk.{IsServed, LastsInRows, LeadsOn};
 ghost use Rattle.vcpu_run.specs.Pairs.{AreOfOneHome};
+ghost use Rattle.vcpu_run.specs.PlainClients.{PlainClientsAreScripted};
+ghost use Rattle.vcpu_run.specs.PlainPairs.{books_of};
+ghost use Rattle.vcpu_run.specs.PlainRuns.{ArePlain};
 ghost use Rattle.vcpu_run.specs.Ports.{ports_of};
 ghost use Rattle.vcpu_run.specs.PortSteps.{AreFresh};
 ghost use Rattle.vcpu_run.specs.PortWords.{PortsTell};
@@ -91,6 +95,10 @@ impl<'p, Di: Blocks> Machine<'p, Di> {
             AreLinked machine.server.units.items machine.pairs.items) }
         ensures unfreed { IfOk result (λ machine.
             KeepQueues machine.pairs.items machine.scripts.items) }
+        ensures plainly { IfOk result (λ machine.
+            ArePlain plan.now.grant machine.server.partition
+            (books_of machine.server.units.items machine.server.records.grants.items
+            machine.server.records.history.items) machine.pairs.items machine.scripts.items) }
     {
         let partitions = plan.partitions.as_slice();
         let home = home_of(partitions);
@@ -143,6 +151,13 @@ impl<'p, Di: Blocks> Machine<'p, Di> {
             self.entry.lan.seats → KeepsLawOf partitions trace) }
         ensures grants { TellsGrants self.entry.server.units.items
             self.entry.server.records.grants.items result.trace }
+        ensures plainly { IfSome result.trace (λ trace. (partitions : List Partition) →
+            IsOfPlan partitions self.entry.pairs.items self.entry.scripts.items
+            self.entry.lan.seats → (granted : ℕ) → ArePlain granted self.entry.server.partition
+            (books_of self.entry.server.units.items self.entry.server.records.grants.items
+            self.entry.server.records.history.items)
+            self.entry.pairs.items self.entry.scripts.items →
+            PlainClientsAreScripted granted partitions trace) }
         ensures caused { IfSome result.trace (λ trace. (partitions : List Partition) →
             IsOfPlan partitions self.entry.pairs.items self.entry.scripts.items
             self.entry.lan.seats → KeepsCaused partitions trace
@@ -229,6 +244,11 @@ fn trace_of(
         IsShownAll partitions trace copies.items pairs.items) }
     ensures law { IfSome result (λ trace. (partitions : List Partition) →
         IsOfPlan partitions pairs.items scripts.entry.items lan.seats → KeepsLawOf partitions trace) }
+    ensures plainly { IfSome result (λ trace. (partitions : List Partition) →
+        IsOfPlan partitions pairs.items scripts.entry.items lan.seats →
+        (granted home : ℕ) (units : List Unit) → OnOk run (ArePlain granted home
+        (books_of units grants.items history.items) pairs.items scripts.entry.items) →
+        PlainClientsAreScripted granted partitions trace) }
 {
     match run {
         Ok(()) => gather(alloc, pairs, scripts, lan, history, grants, copies).ok(),

@@ -11,6 +11,7 @@ ghost use Rattle.vcpu_run.specs.Received.{AreNew, IsNew};
 ghost use Rattle.vcpu_run.specs.Machines.{ArePlanned, IsPlanned, home_of, seat_of};
 ghost use Rattle.vcpu_run.specs.Making.{AreMade, HasNoneIn, IsMade, IsSeatAt, IsSeatIn, IsSeatOf};
 ghost use Rattle.vcpu_run.specs.Pairs.{ArePairs, IsPair};
+ghost use Rattle.vcpu_run.specs.PlainPairs.{OpenPlainly, OpensPlainly};
 ghost use Rattle.vcpu_run.specs.Ports.{port_of, ports_in, ports_of};
 
 use crate::pair::{ClientSeat, Pair};
@@ -58,6 +59,7 @@ pub(crate) fn make_pairs(
     ensures answered { IfOk result (λ pairs. AreAnswered [] pairs.items) }
     ensures closed { IfOk result (λ pairs. AreClosed pairs.items) }
     ensures fresh { IfOk result (λ pairs. AreNew pairs.items) }
+    ensures opens { IfOk result (λ pairs. OpenPlainly pairs.items) }
 {
     let mut pairs = Vec::new(alloc);
     let Some(partition) = partitions.get(home) else {
@@ -100,6 +102,7 @@ fn make_pair(
     ensures answered { IfOk result (IsAnswered []) }
     ensures closed { IfOk result IsClosed }
     ensures fresh { IfOk result IsNew }
+    ensures opens { IfOk result OpensPlainly }
 {
     let client = client_of(partitions, server);
     Pair::open(alloc, server, queue, client)

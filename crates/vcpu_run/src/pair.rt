@@ -18,6 +18,7 @@ ghost use Rattle.vcpu_run.specs.Machines.{FitsSeat, HasSeat, SitsAt, Stays, serv
 ghost use Rattle.vcpu_run.specs.Named.{HasWindow};
 ghost use Rattle.vcpu_run.specs.OnDisk.{LastsOnDisk};
 ghost use Rattle.vcpu_run.specs.Pairs.{IsPair};
+ghost use Rattle.vcpu_run.specs.PlainPairs.{IdlesPlainly, OpensPlainly, ServesPlainly, SparesUnit, books_of};
 ghost use Rattle.vcpu_run.specs.Received.{IsNew, IsReceived};
 ghost use Rattle.vcpu_run.specs.ShutShown.{StaysServed};
 ghost use Rattle.vcpu_run.specs.ValuesPut.{SameValues};
@@ -81,6 +82,7 @@ impl Pair {
         ensures answered { IfOk result (IsAnswered []) }
         ensures closed { IfOk result IsClosed }
         ensures fresh { IfOk result IsNew }
+        ensures opens { IfOk result OpensPlainly }
     {
         match client {
             Some(seat) => Pair::with_client(alloc, server, queue, seat),
@@ -105,6 +107,7 @@ impl Pair {
         ensures answered { IfOk result (IsAnswered []) }
         ensures closed { IfOk result IsClosed }
         ensures fresh { IfOk result IsNew }
+        ensures opens { IfOk result OpensPlainly }
     {
         Ok(Pair {
             server,
@@ -126,6 +129,7 @@ impl Pair {
         ensures answered { IfOk result (IsAnswered []) }
         ensures closed { IfOk result IsClosed }
         ensures fresh { IfOk result IsNew }
+        ensures opens { IfOk result OpensPlainly }
     {
         let absent = UnitId {
             partition: server.partition,
@@ -230,6 +234,23 @@ impl Pair {
         ensures quiet { IfOk result (λ moved. moved ≡ Moved.Quiet →
             IsLinked server.old.units.items unit self.old →
             ServerWaits (slice_get server.new.units.items unit) (link_state self.new.link)) }
+        ensures plainly { OnOk result (ServesPlainly server.old.partition
+            (books_of server.old.units.items server.old.records.grants.items
+            server.old.records.history.items)
+            (books_of server.new.units.items server.new.records.grants.items
+            server.new.records.history.items)
+            unit self.old self.new) }
+        ensures idles { IfOk result (λ moved. moved ≡ Moved.Quiet →
+            IdlesPlainly server.old.partition
+            (books_of server.old.units.items server.old.records.grants.items
+            server.old.records.history.items)
+            (books_of server.new.units.items server.new.records.grants.items
+            server.new.records.history.items) unit self.old) }
+        ensures plainly_else { (k : ℕ) → k ≢ unit → SparesUnit server.old.partition
+            (books_of server.old.units.items server.old.records.grants.items
+            server.old.records.history.items)
+            (books_of server.new.units.items server.new.records.grants.items
+            server.new.records.history.items) k }
     {
         let mut end = SessionEnd {
             end: self.link.side(true),

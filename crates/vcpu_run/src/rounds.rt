@@ -28,6 +28,8 @@ ghost use Rattle.vcpu_run.specs.ScriptTold.{AreOutIf, AreOutTo, AreTold, SameCli
 ghost use Rattle.vcpu_run.specs.Scripts.{are_servers};
 ghost use Rattle.vcpu_run.specs.Machines.{AllRun, AllStay, AreScripts, IsMachine, IsServing};
 ghost use Rattle.vcpu_run.specs.Pairs.{ArePairs, AreDrivers};
+ghost use Rattle.vcpu_run.specs.PlainRuns.{ArePlain, ArePlainTo, ArePlainlyQuietTo, AwaitsNoneAt, NoneAwait};
+ghost use Rattle.vcpu_run.specs.PlainPairs.{IdlesPlainlyAt, ServerBooks, ServesPlainlyAt, SparesUnit, books_of};
 ghost use Rattle.vcpu_run.specs.PortWords.{PortsTell};
 ghost use Rattle.vcpu_run.specs.PortsRest.{AreTakenTo, TurnRests};
 ghost use Rattle.vcpu_run.specs.Received.{AreReceived};
@@ -86,6 +88,12 @@ pub(crate) fn run<Di: Blocks>(
     ensures idle { OnOk result (AreLinked server.old.units.items pairs.old →
         AreIdle server.new.units.items pairs.new scripts.new) }
     ensures ports { OnOk result (AreTakenTo (length scripts.new) lan.new scripts.new) }
+    ensures plainly { OnOk result ((granted : ℕ) → ArePlain granted server.old.partition
+        (books_of server.old.units.items server.old.records.grants.items
+        server.old.records.history.items) pairs.old scripts.old →
+        ArePlain granted server.new.partition
+        (books_of server.new.units.items server.new.records.grants.items
+        server.new.records.history.items) pairs.new scripts.new) }
 {
     for _round in 0..u64::MAX {
         let moved = step(server, pairs, scripts, lan)?;
@@ -163,6 +171,12 @@ fn step<Di: Blocks>(
     ensures ports { IfOk result (λ moved. moved ≡ Moved.Quiet →
         AreOverTo (length scripts.new) scripts.new →
         AreTakenTo (length scripts.new) lan.new scripts.new) }
+    ensures plainly { OnOk result ((granted : ℕ) → ArePlain granted server.old.partition
+        (books_of server.old.units.items server.old.records.grants.items
+        server.old.records.history.items) pairs.old scripts.old →
+        ArePlain granted server.new.partition
+        (books_of server.new.units.items server.new.records.grants.items
+        server.new.records.history.items) pairs.new scripts.new) }
 {
     match round(server, pairs, scripts, lan)? {
         Moved::Moved => Ok(Moved::Moved),
@@ -224,6 +238,17 @@ fn round<Di: Blocks>(
     ensures ports { IfOk result (λ moved. moved ≡ Moved.Quiet →
         AreOverTo (length scripts.new) scripts.new →
         AreTakenTo (length scripts.new) lan.new scripts.new) }
+    ensures plainly { OnOk result ((granted : ℕ) → ArePlain granted server.old.partition
+        (books_of server.old.units.items server.old.records.grants.items
+        server.old.records.history.items) pairs.old scripts.old →
+        ArePlain granted server.new.partition
+        (books_of server.new.units.items server.new.records.grants.items
+        server.new.records.history.items) pairs.new scripts.new) }
+    ensures quietly { IfOk result (λ moved. moved ≡ Moved.Quiet → (granted : ℕ) →
+        ArePlain granted server.old.partition
+        (books_of server.old.units.items server.old.records.grants.items
+        server.old.records.history.items) pairs.old scripts.old →
+        NoneAwait scripts.new) }
 {
     let mut moved = Moved::Quiet;
     for number in 0..scripts.len() {
@@ -292,6 +317,22 @@ fn turn_at<Di: Blocks>(
         IsSomeAnd (slice_get scripts.new number) (λ script. TurnRests script lan.old lan.new)) }
     ensures elsewhere { (i : ℕ) → i ≢ number →
         slice_get scripts.new i ≡ slice_get scripts.old i }
+    ensures plainly { OnOk result ((granted : ℕ) → ArePlainTo granted server.old.partition number
+        (books_of server.old.units.items server.old.records.grants.items
+        server.old.records.history.items) pairs.old scripts.old →
+        ArePlainTo granted server.new.partition (number + 1)
+        (books_of server.new.units.items server.new.records.grants.items
+        server.new.records.history.items) pairs.new scripts.new) }
+    ensures quietly { IfOk result (λ moved. moved ≡ Moved.Quiet → (granted : ℕ) →
+        ArePlainTo granted server.old.partition number
+        (books_of server.old.units.items server.old.records.grants.items
+        server.old.records.history.items) pairs.old scripts.old →
+        ArePlainlyQuietTo server.old.partition number
+        (books_of server.old.units.items server.old.records.grants.items
+        server.old.records.history.items) scripts.old →
+        ArePlainlyQuietTo server.new.partition (number + 1)
+        (books_of server.new.units.items server.new.records.grants.items
+        server.new.records.history.items) scripts.new) }
 {
     if scripts[number].is_of_servers() {
         serve(server, pairs)
@@ -333,6 +374,19 @@ fn serve<Di: Blocks>(server: &mut Server<Di>, pairs: &mut [Pair]) -> Result<Move
     ensures wait { IfOk result (λ moved. moved ≡ Moved.Quiet →
         AreLinked server.old.units.items pairs.old →
         ServersWait server.new.units.items (links_of pairs.new)) }
+    ensures partition { server.new.partition ≡ server.old.partition }
+    ensures plainly { OnOk result ((k : ℕ) → ServesPlainlyAt server.old.partition
+        (books_of server.old.units.items server.old.records.grants.items
+        server.old.records.history.items)
+        (books_of server.new.units.items server.new.records.grants.items
+        server.new.records.history.items)
+        pairs.old pairs.new k) }
+    ensures idles { IfOk result (λ moved. moved ≡ Moved.Quiet → (k : ℕ) →
+        IdlesPlainlyAt server.old.partition
+        (books_of server.old.units.items server.old.records.grants.items
+        server.old.records.history.items)
+        (books_of server.new.units.items server.new.records.grants.items
+        server.new.records.history.items) pairs.old k) }
 {
     let mut moved = Moved::Quiet;
     for unit in 0..pairs.len() {
@@ -384,6 +438,24 @@ fn serve_at<Di: Blocks>(
     ensures units_else { (k : ℕ) → k ≢ unit →
         slice_get server.new.units.items k ≡ slice_get server.old.units.items k }
     ensures elsewhere { (k : ℕ) → k ≢ unit → slice_get pairs.new k ≡ slice_get pairs.old k }
+    ensures partition { server.new.partition ≡ server.old.partition }
+    ensures plainly { OnOk result (ServesPlainlyAt server.old.partition
+        (books_of server.old.units.items server.old.records.grants.items
+        server.old.records.history.items)
+        (books_of server.new.units.items server.new.records.grants.items
+        server.new.records.history.items)
+        pairs.old pairs.new unit) }
+    ensures idles { IfOk result (λ moved. moved ≡ Moved.Quiet →
+        IdlesPlainlyAt server.old.partition
+        (books_of server.old.units.items server.old.records.grants.items
+        server.old.records.history.items)
+        (books_of server.new.units.items server.new.records.grants.items
+        server.new.records.history.items) pairs.old unit) }
+    ensures plainly_else { (k : ℕ) → k ≢ unit → SparesUnit server.old.partition
+        (books_of server.old.units.items server.old.records.grants.items
+        server.old.records.history.items)
+        (books_of server.new.units.items server.new.records.grants.items
+        server.new.records.history.items) k }
 {
     pairs[unit].serve(server, unit as u8)
 }
@@ -439,6 +511,16 @@ fn run_script(
         IsSomeAnd (slice_get scripts.new number) (λ script. TurnRests script lan.old lan.new)) }
     ensures elsewhere { (i : ℕ) → i ≢ number →
         slice_get scripts.new i ≡ slice_get scripts.old i }
+    ensures plainly { OnOk result ((granted home : ℕ) (books : ServerBooks) →
+        IsSomeAnd (slice_get scripts.old number) (λ script. are_servers script.seats.items ≡ false) →
+        ArePlainTo granted home number books pairs.old scripts.old →
+        ArePlainTo granted home (number + 1) books pairs.new scripts.new) }
+    ensures quietly { IfOk result (λ moved. moved ≡ Moved.Quiet →
+        (granted home : ℕ) (books : ServerBooks) →
+        IsSomeAnd (slice_get scripts.old number) (λ script. are_servers script.seats.items ≡ false) →
+        ArePlainTo granted home number books pairs.old scripts.old →
+        ArePlainlyQuietTo home number books scripts.old →
+        ArePlainlyQuietTo home (number + 1) books scripts.new) }
 {
     scripts[number].turn(pairs, lan)
 }
@@ -461,6 +543,10 @@ fn end_lines(scripts: &mut [Script<'_>]) -> Result<Moved, NoMemory>
         AreScripts pairs ports scripts.old → AreOpenTo (length scripts.old) pairs scripts.old →
         KeepQueues pairs scripts.old → KeepQueues pairs scripts.new) }
     ensures quiet { IfOk result (λ moved. moved ≡ Moved.Quiet → scripts.new ≡ scripts.old) }
+    ensures plainly { OnOk result ((granted home : ℕ) (books : ServerBooks) (pairs : List Pair)
+        (ports : List PortSeat) → AreScripts pairs ports scripts.old → NoneAwait scripts.old →
+        ArePlain granted home books pairs scripts.old →
+        ArePlain granted home books pairs scripts.new) }
 {
     let mut moved = Moved::Quiet;
     for number in 0..scripts.len() {
@@ -491,6 +577,10 @@ fn end_line_at(scripts: &mut [Script<'_>], number: usize) -> Result<Moved, NoMem
     ensures quiet { IfOk result (λ moved. moved ≡ Moved.Quiet → scripts.new ≡ scripts.old) }
     ensures elsewhere { (i : ℕ) → i ≢ number →
         slice_get scripts.new i ≡ slice_get scripts.old i }
+    ensures plainly { OnOk result ((granted home : ℕ) (books : ServerBooks) (pairs : List Pair)
+        (ports : List PortSeat) → AreScripts pairs ports scripts.old →
+        AwaitsNoneAt number scripts.old → ArePlain granted home books pairs scripts.old →
+        ArePlain granted home books pairs scripts.new) }
 {
     scripts[number].end_waiting()
 }

@@ -11,6 +11,7 @@ ghost use Rattle.vcpu_run.specs.Lines.{IsOver, is_over, place_behind};
 ghost use Rattle.vcpu_run.specs.Holding.{LeavesResetOpen, IsResetOpen, KeepsQueues};
 ghost use Rattle.vcpu_run.specs.Links.{SeatsRest, SeatsRestWhole};
 ghost use Rattle.vcpu_run.specs.Pairs.{AreDriven, AreDrivers};
+ghost use Rattle.vcpu_run.specs.PlainScripts.{NoneAwaits, QuietsPlainly, StandsPlainly, StandsPlainlyAt, StartsAnew, TurnsPlainly};
 ghost use Rattle.vcpu_run.specs.Quietly.{OnQuiet};
 ghost use Rattle.lan_script.specs.Units.{LanValue};
 ghost use Rattle.vcpu_run.specs.Ports.{HasPorts};
@@ -103,6 +104,8 @@ impl<'p> Script<'p> {
         ensures partition { result.partition ≡ partition }
         ensures lines { result.lines.now ≡ lines.now }
         ensures seats { result.seats ≡ seats }
+        ensures plainly { (granted u : ℕ) (pair : PairValue) → StartsAnew pair →
+            StandsPlainly granted u result pair }
     {
         Script {
             alloc,
@@ -145,6 +148,9 @@ impl<'p> Script<'p> {
             SeatsRestWhole self.old.seats.items pairs.old pairs.new) }
         ensures ports { IfOk result (λ moved. moved ≡ Moved.Quiet → IsOver self.new →
             PortsRest self.old.partition self.old.seats.items lan.old lan.new) }
+        ensures plainly { OnOk result (TurnsPlainly pairs.old pairs.new self.old self.new) }
+        ensures quiets { IfOk result (λ moved. moved ≡ Moved.Quiet →
+            QuietsPlainly pairs.old pairs.new self.old self.new) }
     {
         let pushed = push_events(&self.seats, pairs)?;
         let moved = self.go_on(pairs, lan)?;
@@ -180,6 +186,9 @@ impl<'p> Script<'p> {
             SeatsRest self.old.seats.items pairs.old pairs.new) }
         ensures ports { IfOk result (λ moved. moved ≡ Moved.Quiet → IsOver self.new →
             PortsRest self.old.partition self.old.seats.items lan.old lan.new) }
+        ensures plainly { OnOk result (TurnsPlainly pairs.old pairs.new self.old self.new) }
+        ensures quiets { IfOk result (λ moved. moved ≡ Moved.Quiet →
+            QuietsPlainly pairs.old pairs.new self.old self.new) }
     {
         let lines = self.lines;
         match lines.get(self.at) {
@@ -215,6 +224,9 @@ impl<'p> Script<'p> {
         ensures opened { IfOk result (λ moved. moved ≡ Moved.Quiet →
             LeavesResetOpen pairs.old pairs.new self.new) }
         ensures quiet { IfOk result (λ moved. moved ≡ Moved.Quiet → ¬ (IsOver self.new)) }
+        ensures plainly { OnOk result (TurnsPlainly pairs.old pairs.new self.old self.new) }
+        ensures quiets { IfOk result (λ moved. moved ≡ Moved.Quiet →
+            QuietsPlainly pairs.old pairs.new self.old self.new) }
     {
         if let Verb::Fail = line.verb {
             return self.step_fail(pairs, lan, line);
@@ -270,6 +282,9 @@ impl<'p> Script<'p> {
         ensures opened { IfOk result (λ moved. moved ≡ Moved.Quiet →
             LeavesResetOpen pairs.old pairs.new self.new) }
         ensures quiet { IfOk result (λ moved. moved ≡ Moved.Quiet → ¬ (IsOver self.new)) }
+        ensures plainly { OnOk result (TurnsPlainly pairs.old pairs.new self.old self.new) }
+        ensures quiets { IfOk result (λ moved. moved ≡ Moved.Quiet →
+            QuietsPlainly pairs.old pairs.new self.old self.new) }
     {
         if fail(self.partition, &self.seats, pairs, lan)? {
             self.end(line, Outcome::Done)?;
@@ -331,6 +346,10 @@ impl<'p> Script<'p> {
         ensures unfreed { OnOk result ((pairs : List PairValue) → IsScript pairs self.old →
             IsResetOpen pairs self.old → KeepsQueues pairs self.old → KeepsQueues pairs self.new) }
         ensures quiet { OnQuiet result (self.new ≡ self.old) }
+        ensures plainly { OnOk result ((granted u k : ℕ) (pairs : List PairValue) →
+            IsScript pairs self.old → NoneAwaits u self.old →
+            StandsPlainlyAt granted u k pairs self.old →
+            StandsPlainlyAt granted u k pairs self.new) }
     {
         let lines = self.lines;
         let Some(line) = lines.get(self.at) else {

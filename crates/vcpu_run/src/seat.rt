@@ -1,6 +1,6 @@
 // What a client partition does at one of its pairs.
-ghost use Rattle.std.specs.Prelude.{◌≡◌, ⊤, true, false, IfOk, IsSomeAnd, OnOk, Some};
-ghost use Rattle.crq_session.specs.PlainState.{side_of};
+ghost use Rattle.std.specs.Prelude.{◌≡◌, [], ⊤, true, false, IfOk, IsSomeAnd, OnOk, Some, length};
+ghost use Rattle.crq_session.specs.PlainState.{end_of, side_of};
 ghost use Rattle.vcpu_run.specs.Pairs.{Drives, IsDriver};
 ghost use Rattle.vcpu_run.specs.Credited.{StepsAgreed, taken_in};
 ghost use Rattle.vcpu_run.specs.EventsMade.{PairCalm, PairMakes, PairShuts};
@@ -16,6 +16,9 @@ ghost use Rattle.hcall_table.specs.Asked.{bare};
 ghost use Rattle.hcall_table.specs.Rows.{IsAnswer, may_answer};
 ghost use Rattle.vcpu_run.specs.CallRows.{arguments_for, queue_arguments, queue_row, row_for};
 ghost use Rattle.vcpu_run.specs.CallsAnswered.{IsReturned, unit_seen};
+ghost use Rattle.vcpu_run.specs.PlainScripts.{PairPlainly, PairRestsPlainly, PairTalksOn};
+ghost use Rattle.vcpu_run.specs.PlainSeated.{DriverPlainly, IsToldSince};
+ghost use Rattle.vcpu_run.specs.PlainTalk.{TookNoMore};
 ghost use Rattle.vcpu_run.specs.Sendings.{SameCredits};
 ghost use Rattle.vcpu_run.specs.TakenScripts.{PairGives, PairHears, PairReads, PairTakes};
 ghost use Rattle.vcpu_run.specs.Telling.{PairOut, PairTold};
@@ -47,6 +50,7 @@ pub(crate) fn push_event(pair: &mut Pair) -> Result<Moved, NoMemory>
     ensures calm { PairCalm pair.old pair.new }
     ensures quiet { IfOk result (λ moved. moved ≡ Moved.Quiet → PairRests pair.old pair.new) }
     ensures waits { IfOk result (λ moved. moved ≡ Moved.Quiet → EventWaits pair.new) }
+    ensures plainly { OnOk result (PairTalksOn pair.old pair.new) }
 {
     let mut end = pair.link.side(false);
     end.reserve(1)?;
@@ -79,6 +83,39 @@ pub(crate) fn step(pair: &mut Pair, line: &Line, progress: &mut Progress) -> Res
     ensures makes { PairMakes line.now.verb progress.old progress.new pair.old pair.new }
     ensures registered { PairOpen line.now.verb progress.new pair.old pair.new result }
     ensures stays { is_reset line.now.verb ≡ false → FreesNoneAt pair.old pair.new }
+    ensures plainly { PairPlainly line.now.verb progress.old progress.new
+        pair.old pair.new result }
+{
+    let before = count_put(pair);
+    let step = drive(pair, line, progress)?;
+    took_no_more(pair);
+    Ok(moved_since(step, before, count_put(pair)))
+}
+
+// Has the client's driver make one step of this line.
+fn drive(pair: &mut Pair, line: &Line, progress: &mut Progress) -> Result<Step, NoMemory>
+    requires driver { IsSomeAnd pair.old.driver (IsDriver pair.old.window) }
+    requires verb { IsUnitVerb line.now.verb }
+    ensures drives { Drives pair.old pair.new }
+    ensures credit { OnDrivers pair.old.driver pair.new.driver (λ a b.
+        StepsAgreed line.now.verb (taken_in progress.old) (taken_in progress.new)
+        a.client b.client result) }
+    ensures takes { PairTakes line.now.verb progress.old progress.new
+        pair.old pair.new result }
+    ensures gives { OnOk result (PairGives pair.old pair.new) }
+    ensures hears { PairHears pair.old pair.new result }
+    ensures said { PairTold line.now.verb progress.old progress.new pair.old pair.new result }
+    ensures shows { PairShowsLine line.now pair.old pair.new result }
+    ensures out { PairOut line.now.verb progress.old progress.new pair.old pair.new result }
+    ensures reads { PairReads line.now.verb pair.old pair.new result }
+    ensures puts { PairPuts line.now.verb pair.old pair.new result }
+    ensures lays { PairLays ⊤ line.now.number pair.old pair.new }
+    ensures region { PairStepped line.now pair.old pair.new result }
+    ensures makes { PairMakes line.now.verb progress.old progress.new pair.old pair.new }
+    ensures registered { PairOpen line.now.verb progress.new pair.old pair.new result }
+    ensures stays { is_reset line.now.verb ≡ false → FreesNoneAt pair.old pair.new }
+    ensures plainly { DriverPlainly line.now.verb progress.old progress.new
+        pair.old pair.new result }
 {
     let Some(driver) = &mut pair.driver else {
         unreachable!()
@@ -88,6 +125,30 @@ pub(crate) fn step(pair: &mut Pair, line: &Line, progress: &mut Progress) -> Res
         moved: false,
     };
     driver.step(&mut crq, &mut pair.window, line, progress)
+}
+
+// Counts the entries that the client put.
+fn count_put(pair: &Pair) -> usize
+    ensures { result ≡ length (side_of pair.now.link true).queue.sent }
+{
+    pair.link.queue(true).sent().len()
+}
+
+// Of its queue's session the client took no more than was put.
+fn took_no_more(pair: &Pair)
+    ensures { TookNoMore (end_of [] pair.now.link false) }
+{
+    let _session = pair.link.queue(false).session();
+}
+
+// A step did nothing only where it put nothing.
+fn moved_since(step: Step, before: usize, now: usize) -> Step
+    ensures { IsToldSince before now step result }
+{
+    match step {
+        Step::Waits(Moved::Quiet) if before < now => Step::Waits(Moved::Moved),
+        told => told,
+    }
 }
 
 /// Takes what stands in the client's queue.
@@ -104,6 +165,7 @@ pub(crate) fn take_rest(pair: &mut Pair) -> Result<Moved, NoMemory>
     ensures quiet { IfOk result (λ moved. moved ≡ Moved.Quiet → PairRests pair.old pair.new) }
     ensures waits { IfOk result (λ moved. moved ≡ Moved.Quiet →
         ClientWaits (link_state pair.new.link)) }
+    ensures plainly { OnOk result (PairRestsPlainly pair.old pair.new) }
 {
     let Some(driver) = &mut pair.driver else {
         unreachable!()
@@ -112,7 +174,9 @@ pub(crate) fn take_rest(pair: &mut Pair) -> Result<Moved, NoMemory>
         end: pair.link.side(false),
         moved: false,
     };
-    driver.take_rest(&mut crq, &mut pair.window)
+    let moved = driver.take_rest(&mut crq, &mut pair.window);
+    took_no_more(pair);
+    moved
 }
 
 /// Fails the client's queue if it is registered. Tells whether it is not any more.

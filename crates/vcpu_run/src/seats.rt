@@ -6,12 +6,14 @@ ghost use Rattle.vcpu_run.specs.ClientMoments.{LineStepped, SeatStepped};
 ghost use Rattle.vcpu_run.specs.ClientStrokes.{AllLay, LineLays, NoneLay};
 ghost use Rattle.vcpu_run.specs.Credited.{taken_in};
 ghost use Rattle.vcpu_run.specs.EventsMade.{AllCalm, AllShut};
+ghost use Rattle.vcpu_run.specs.FailedPorts.{IsClosedAt, PortsClosed};
 ghost use Rattle.vcpu_run.specs.FailedShut.{AllStayShut, IsShutAt, SeatsShut, opens_if};
 ghost use Rattle.vcpu_run.specs.Freed.{FreesNoneIf};
 ghost use Rattle.vcpu_run.specs.Freeing.{IsSpared, is_reset};
 ghost use Rattle.vcpu_run.specs.Holding.{LineOpen, SeatOpen};
 ghost use Rattle.vcpu_run.specs.Links.{ClientWaits, EventWaits, EventsWait, LinksRest, SeatsRest, links_of};
 ghost use Rattle.vcpu_run.specs.Pairs.{AreDriven, IsDriver};
+ghost use Rattle.vcpu_run.specs.PlainScripts.{AllRestPlainly, AllTalkOn, LinePlainly, SeatPlainly};
 ghost use Rattle.vcpu_run.specs.Ports.{HavePorts, IsPortOf};
 ghost use Rattle.vcpu_run.specs.PortCalls.{EndsEntries};
 ghost use Rattle.vcpu_run.specs.PortMacs.{EndsPorts};
@@ -59,6 +61,7 @@ fn push_event_of(pairs: &mut [Pair], pair: usize) -> Result<Moved, NoMemory>
     ensures quiet { IfOk result (λ moved. moved ≡ Moved.Quiet → LinksRest pairs.old pairs.new) }
     ensures waits { IfOk result (λ moved. moved ≡ Moved.Quiet →
         IfSome (slice_get pairs.new pair) EventWaits) }
+    ensures plainly { OnOk result (AllTalkOn pairs.old pairs.new) }
 {
     seat::push_event(&mut pairs[pair])
 }
@@ -74,6 +77,7 @@ fn push_event_at(pairs: &mut [Pair], seat: Seat) -> Result<Moved, NoMemory>
     ensures quiet { IfOk result (λ moved. moved ≡ Moved.Quiet → LinksRest pairs.old pairs.new) }
     ensures waits { IfOk result (λ moved. moved ≡ Moved.Quiet → (k : ℕ) → seat ≡ sits.Client k →
         IfSome (slice_get pairs.new k) EventWaits) }
+    ensures plainly { OnOk result (AllTalkOn pairs.old pairs.new) }
 {
     match seat {
         Seat::Client(pair) => push_event_of(pairs, pair),
@@ -91,6 +95,7 @@ pub(crate) fn push_events(seats: &[Seat], pairs: &mut [Pair]) -> Result<Moved, N
     ensures clients { SameClients pairs.old pairs.new }
     ensures quiet { IfOk result (λ moved. moved ≡ Moved.Quiet → LinksRest pairs.old pairs.new) }
     ensures waits { IfOk result (λ moved. moved ≡ Moved.Quiet → EventsWait seats.now pairs.new) }
+    ensures plainly { OnOk result (AllTalkOn pairs.old pairs.new) }
 {
     let mut moved = Moved::Quiet;
     for k in 0..seats.len() {
@@ -124,6 +129,8 @@ pub(crate) fn step_at(
         pairs.old pairs.new result }
     ensures stays { FreesNoneIf (λ k. k ≡ pair → is_reset line.now.verb ≡ false)
         pairs.old pairs.new }
+    ensures plainly { SeatPlainly pair line.now.verb progress.old progress.new
+        pairs.old pairs.new result }
 {
     seat::step(&mut pairs[pair], line, progress)
 }
@@ -167,6 +174,8 @@ fn step_own(
     ensures told { IfOk result (TellsStep partition seats.now line.now
         (done_in progress.old) (done_in progress.new) lan.old lan.new) }
     ensures apart { OnOk result (IsApart partition lan.old lan.new) }
+    ensures plainly { LinePlainly seats.now line.now progress.old progress.new
+        pairs.old pairs.new result }
 {
     match seat_at(seats, line.unit) {
         Seat::Client(pair) => step_at(pairs, pair, line, progress),
@@ -214,6 +223,8 @@ pub(crate) fn step_unit(
         EndsEntries partition (slice_get seats.now) line.now.verb lan.old lan.new step) }
     ensures called { IfOk result (StepSaid (seen_from partition seats.now pairs.new)
         line.now.verb) }
+    ensures plainly { is_call line.now.verb ≡ false → LinePlainly seats.now line.now
+        progress.old progress.new pairs.old pairs.new result }
 {
     match RawCall::of(&line.verb) {
         Some(raw) => make_call(alloc, partition, seats, pairs, lan, &raw),
@@ -237,6 +248,7 @@ fn take_rest_of(pairs: &mut [Pair], pair: usize) -> Result<Moved, NoMemory>
     ensures still { IfOk result (λ moved. moved ≡ Moved.Quiet → LinksRest pairs.old pairs.new) }
     ensures waits { IfOk result (λ moved. moved ≡ Moved.Quiet →
         IsSomeAnd (slice_get (links_of pairs.new) pair) ClientWaits) }
+    ensures plainly { OnOk result (AllRestPlainly pairs.old pairs.new) }
 {
     seat::take_rest(&mut pairs[pair])
 }
@@ -267,6 +279,7 @@ fn take_rest_at(
         IsSomeAnd (slice_get (links_of pairs.new) k) ClientWaits) }
     ensures ports { IfOk result (λ moved. moved ≡ Moved.Quiet →
         SeatTaken unit seat lan.old lan.new) }
+    ensures plainly { OnOk result (AllRestPlainly pairs.old pairs.new) }
 {
     match seat {
         Seat::Client(pair) => take_rest_of(pairs, pair),
@@ -300,6 +313,7 @@ pub(crate) fn take_rest(
         SeatsRest seats.now pairs.old pairs.new) }
     ensures ports { IfOk result (λ moved. moved ≡ Moved.Quiet →
         PortsRest partition seats.now lan.old lan.new) }
+    ensures plainly { OnOk result (AllRestPlainly pairs.old pairs.new) }
 {
     let mut moved = Moved::Quiet;
     for k in 0..seats.len() {
@@ -332,6 +346,7 @@ fn fail_of(pairs: &mut [Pair], pair: usize) -> Result<bool, NoMemory>
 }
 
 // Fails the queue, or frees the port, of the unit that sits here, if it is registered. Tells whether it is not any more.
+#[tactic(auto, using(crate::proofs::FailedPorts::port_closes, crate::proofs::FailedPorts::port_gives, crate::proofs::FailedPorts::port_shut, crate::proofs::PortRising::closes_beside))]
 fn fail_at(unit: UnitId, seat: Seat, pairs: &mut [Pair], lan: &mut Lan) -> Result<bool, NoMemory>
     requires client { (k : ℕ) → seat ≡ sits.Client k → IsSomeAnd (slice_get pairs.old k)
         (λ pair. IsSomeAnd pair.driver (IsDriver pair.window)) }
@@ -343,6 +358,7 @@ fn fail_at(unit: UnitId, seat: Seat, pairs: &mut [Pair], lan: &mut Lan) -> Resul
     ensures lays { NoneLay pairs.old pairs.new }
     ensures shut { AllShut pairs.old pairs.new }
     ensures down { IfOk result (λ done. done ≡ true → IsShutAt seat pairs.new) }
+    ensures closes { IfOk result (λ done. done ≡ true → IsClosedAt unit seat lan.new) }
     ensures others { SameElse (seat ∷ []) pairs.old pairs.new }
     ensures lan { lan.new.seats ≡ lan.old.seats }
     ensures idle { AllSilent lan.old lan.new }
@@ -372,6 +388,8 @@ pub(crate) fn fail(
     ensures lays { NoneLay pairs.old pairs.new }
     ensures shut { AllShut pairs.old pairs.new }
     ensures down { IfOk result (λ done. done ≡ true → SeatsShut seats.now pairs.new) }
+    ensures closes { IfOk result (λ done. done ≡ true →
+        PortsClosed partition seats.now lan.new) }
     ensures others { SameElse seats.now pairs.old pairs.new }
     ensures lan { lan.new.seats ≡ lan.old.seats }
     ensures idle { AllSilent lan.old lan.new }

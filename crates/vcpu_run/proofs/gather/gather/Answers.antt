@@ -7,6 +7,7 @@ use Rattle.vcpu_run.proofs.Fetching.{entries_are_fetched, ok_pair, requests_are_
 use Rattle.vcpu_run.proofs.FramesCarried.{ports_keep}
 use Rattle.vcpu_run.proofs.Freed.{few_seats, free_pairs, from_rows}
 use Rattle.vcpu_run.proofs.GivenAnswers.{answers_are_given}
+use Rattle.vcpu_run.proofs.LastHanded.{last_are_handed_over}
 use Rattle.vcpu_run.proofs.LoginsShown.{logins_are_answered, logins_are_sent, logins_are_shown}
 use Rattle.vcpu_run.proofs.Ordering.{order_is}
 use Rattle.vcpu_run.proofs.PortsTold.{from_counts, told_are}
@@ -19,6 +20,7 @@ use Rattle.vcpu_run.proofs.Settling.{handed_are, settled_are}
 use Rattle.std.proofs.Common.{refl}
 use Rattle.vcpu_run.proofs.ToldAll.{shown_all}
 use Rattle.vcpu_run.proofs.ToldRows.{lines_are_explained, rows_are_copied, rows_are_shown}
+use Rattle.vcpu_run.proofs.PlainTold.{scripted_are}
 use Rattle.vcpu_run.proofs.gather.gather.Goals as goal
 
 pub rows_of-requires : goal.rows_of-requires
@@ -100,6 +102,12 @@ returns-clause-given c =
     (λ rows keeps ordered lawful partitions of_plan rests. answers_are_given c.args.pairs.items c.args.scripts.items c.args.lan rows c.args.history.items c.args.grants.items c.args.copies.items partitions
     c.requires.pairs c.requires.scripts lawful of_plan rests)
 
+pub returns-clause-whole : goal.returns-clause-whole
+returns-clause-whole c =
+    from_rows c.args.pairs.items c.args.scripts.items c.args.lan c.args.history.items c.args.grants.items c.args.copies.items c.rows_of.result _ _ c.rows_of.ensures.trace c.rows_of.ensures.queues
+    (λ rows keeps ordered lawful partitions of_plan answered rests. last_are_handed_over c.args.pairs.items c.args.scripts.items c.args.lan rows c.args.history.items c.args.grants.items c.args.copies.items partitions
+    c.requires.pairs c.requires.scripts lawful of_plan answered rests)
+
 pub returns-clause-serves : goal.returns-clause-serves
 returns-clause-serves c =
     from_rows c.args.pairs.items c.args.scripts.items c.args.lan c.args.history.items c.args.grants.items c.args.copies.items c.rows_of.result _ _ c.rows_of.ensures.trace c.rows_of.ensures.queues
@@ -163,3 +171,9 @@ pub returns-clause-logged : goal.returns-clause-logged
 returns-clause-logged c =
     from_rows c.args.pairs.items c.args.scripts.items c.args.lan c.args.history.items c.args.grants.items c.args.copies.items c.rows_of.result _ _ c.rows_of.ensures.trace c.rows_of.ensures.windows
     (λ rows keeps ordered lawful partitions of_plan over credited. clients_logged c.args.pairs.items c.args.scripts.items c.args.lan rows c.args.history.items c.args.grants.items c.args.copies.items partitions c.requires.pairs c.requires.scripts lawful of_plan over credited)
+
+pub returns-clause-plainly : goal.returns-clause-plainly
+returns-clause-plainly c =
+    from_rows c.args.pairs.items c.args.scripts.items c.args.lan c.args.history.items c.args.grants.items c.args.copies.items c.rows_of.result _ _ c.rows_of.ensures.trace c.rows_of.ensures.queues
+    (λ rows keeps ordered lawful partitions of_plan rests. scripted_are c.args.pairs.items c.args.scripts.items c.args.lan rows c.args.history.items c.args.grants.items c.args.copies.items partitions
+    c.requires.scripts lawful of_plan rests)

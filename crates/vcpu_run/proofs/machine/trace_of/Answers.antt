@@ -5,7 +5,9 @@ use Rattle.vcpu_run.specs.Lines.{IsOver}
 use Rattle.vcpu_run.specs.PortsRest.{PortsEnd}
 use Rattle.vcpu_run.specs.Received.{AreAtRest}
 use Rattle.vcpu_run.specs.ScriptTold.{AreTold}
-use Rattle.vcpu_run.proofs.Told.{law_told, served_told, said_told}
+use Rattle.vcpu_run.proofs.Told.{each_told, law_told, served_told, said_told}
+use Rattle.vcpu_run.specs.PlainPairs.{books_of}
+use Rattle.vcpu_run.specs.PlainRuns.{ArePlain}
 use Rattle.vcpu_run.proofs.machine.trace_of.Goals as goal
 
 pub returns-in-Ok-clause-law : goal.returns-in-Ok-clause-law
@@ -17,7 +19,7 @@ returns-in-Ok-clause-law c =
     let over = subst (λ r. OnOk r (All IsOver c.args.scripts.items)) c.in-Ok.is c.requires.over in
     let rests = subst (λ r. OnOk r (AreAtRest c.args.copies.items c.args.grants.items c.args.history.items c.args.pairs.items c.args.scripts.items)) c.in-Ok.is c.requires.rests in
     law_told c.gather.result c.ok.result c.args.pairs.items c.args.scripts.items c.args.lan.seats c.args.history.items c.args.copies.items c.args.grants.items c.ok.ensures.value
-    told.order told.queues told.copies told.records over told.credits credited told.logged told.refusals said told.answers c.requires.answered told.ports c.args.lan told.told tells told.settled told.handed told.intake told.requests told.given told.copied told.explained told.logins told.dealt told.called rests
+    told.order told.queues told.copies told.records over told.credits credited told.logged told.refusals said told.answers c.requires.answered told.ports c.args.lan told.told tells told.settled told.handed told.intake told.requests told.given told.whole told.copied told.explained told.logins told.dealt told.called rests
 
 pub returns-in-Ok-clause-serves : goal.returns-in-Ok-clause-serves
 returns-in-Ok-clause-serves c = served_told c.gather.result c.ok.result c.args.history.items c.ok.ensures.value c.gather.ensures.serves
@@ -27,3 +29,12 @@ returns-in-Ok-clause-shown c = said_told c.gather.result c.ok.result _ c.ok.ensu
 
 pub returns-in-Ok-clause-grants : goal.returns-in-Ok-clause-grants
 returns-in-Ok-clause-grants c = said_told c.gather.result c.ok.result _ c.ok.ensures.value c.gather.ensures.grants
+
+pub returns-in-Ok-clause-plainly : goal.returns-in-Ok-clause-plainly
+returns-in-Ok-clause-plainly c =
+    let rests = subst (λ r. OnOk r (AreAtRest c.args.copies.items c.args.grants.items c.args.history.items c.args.pairs.items c.args.scripts.items)) c.in-Ok.is c.requires.rests in
+    said_told c.gather.result c.ok.result _ c.ok.ensures.value
+    (each_told c.gather.result _ _
+    (λ trace keeps partitions of_plan granted home units plain. keeps partitions of_plan rests granted home units
+    (subst (λ r. OnOk r (ArePlain granted home (books_of units c.args.grants.items c.args.history.items) c.args.pairs.items c.args.scripts.items)) c.in-Ok.is plain))
+    c.gather.ensures.plainly)

@@ -12,6 +12,7 @@ use Rattle.vcpu_run.specs.Answered.{IsAnswered}
 use Rattle.vcpu_run.specs.Links.{IsClosed}
 use Rattle.vcpu_run.specs.Machines.{ArePlanned, IsPlanned}
 use Rattle.vcpu_run.specs.Pairs.{ArePairs, IsPair}
+use Rattle.vcpu_run.specs.PlainPairs.{OpensPlainly}
 use Rattle.vcpu_run.specs.Received.{IsNew}
 use Rattle.vcpu_run.proofs.Booted.{planned_all, planned_none}
 use Rattle.vcpu_run.proofs.Homes.{all_at, home_serves}
@@ -38,6 +39,7 @@ loop-place-preserved c =
       answered = λ k other found. each_pushed (λ k pair. IsAnswered [] pair) items pair before.answered c.in_ok-make_pair.ensures.answered k other (rw push at found);
       closed = λ k other found. each_pushed (λ k pair. IsClosed pair) items pair before.closed c.in_ok-make_pair.ensures.closed k other (rw push at found);
       fresh = λ k other found. each_pushed (λ k pair. IsNew pair) items pair before.fresh c.in_ok-make_pair.ensures.fresh k other (rw push at found);
+      opens = λ k other found. each_pushed (λ k pair. OpensPlainly pair) items pair before.opens c.in_ok-make_pair.ensures.opens k other (rw push at found);
     }
 
 pub returns-in_default-clause-planned : goal.returns-in_default-clause-planned

@@ -6,6 +6,7 @@ use Rattle.vcpu_run.specs.Answered.{AreAnswered}
 use Rattle.vcpu_run.specs.Links.{AreClosed}
 use Rattle.vcpu_run.specs.Machines.{IsPlanned}
 use Rattle.vcpu_run.specs.Pairs.{ArePairs}
+use Rattle.vcpu_run.specs.PlainPairs.{OpenPlainly}
 use Rattle.vcpu_run.specs.Received.{AreNew}
 use Rattle.vcpu_run.proofs.making.make_pairs.Given as goal
 
@@ -18,4 +19,5 @@ invariant-loop-place l = record {
   answered : AreAnswered [] l.pairs.items;
   closed : AreClosed l.pairs.items;
   fresh : AreNew l.pairs.items;
+  opens : OpenPlainly l.pairs.items;
 }

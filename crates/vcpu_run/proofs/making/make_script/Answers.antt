@@ -16,6 +16,7 @@ returns c =
       credited = λ pairs out. new.credited pairs (rw new.seats at out);
       said = λ pairs out. new.said pairs (rw new.seats at out);
       told = new.told;
+      plainly = new.plainly;
     }
 
 pub new-requires-clause-lines : goal.new-requires-clause-lines

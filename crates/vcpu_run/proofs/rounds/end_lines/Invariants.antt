@@ -10,6 +10,8 @@ use Rattle.vcpu_run.specs.Holding.{AreOpenTo, KeepQueues}
 use Rattle.vcpu_run.specs.Machines.{AllRun, AreScripts}
 use Rattle.vcpu_run.specs.PortWords.{PortsTell}
 use Rattle.vcpu_run.specs.ScriptTold.{AreOutTo, AreTold}
+use Rattle.vcpu_run.specs.PlainPairs.{ServerBooks}
+use Rattle.vcpu_run.specs.PlainRuns.{ArePlain, NoneAwait}
 use Rattle.vcpu_run.proofs.rounds.end_lines.Given as goal
 
 abbrev pub invariant-loop-number : goal.invariant-loop-number
@@ -23,5 +25,7 @@ invariant-loop-number l = record {
   told : (pairs : List Pair) (ports : List PortSeat) (lan : LanValue) → AreScripts pairs ports l.initial.scripts → PortsTell lan l.initial.scripts → PortsTell lan l.scripts;
   unfreed : (pairs : List Pair) (ports : List PortSeat) → AreScripts pairs ports l.initial.scripts → AreOpenTo (length l.initial.scripts) pairs l.initial.scripts
       → KeepQueues pairs l.initial.scripts → KeepQueues pairs l.scripts;
+  plainly : (granted home : ℕ) (books : ServerBooks) (pairs : List Pair) (ports : List PortSeat) → AreScripts pairs ports l.initial.scripts → NoneAwait l.initial.scripts
+      → ArePlain granted home books pairs l.initial.scripts → ArePlain granted home books pairs l.scripts;
   same : l.moved ≡ Quiet → l.scripts ≡ l.initial.scripts;
 }

@@ -7,10 +7,12 @@ use Rattle.vcpu_run.proofs.RoundsTold.{out_all, out_none}
 use Rattle.vcpu_run.proofs.Scripted.{run_same, run_then}
 use Rattle.vcpu_run.proofs.Causings.{causes_same, causes_then}
 use Rattle.vcpu_run.proofs.PortsResting.{ports_all, ports_next, ports_none}
+use Rattle.vcpu_run.specs.PlainPairs.{books_of}
+use Rattle.vcpu_run.proofs.PlainRuns.{quiet_none, round_plainly, round_quietly}
 use Rattle.vcpu_run.proofs.rounds.round.Goals as goal
 
 pub loop-number-init : goal.loop-number-init
-loop-number-init g c = record { machine = c.requires.machine; stay = all_same c.args.pairs.now; run = run_same c.args.scripts.now; answered = c.requires.answered; received = c.requires.received; heard = c.requires.heard; grants = λ granted is. is; disk = lasts_same c.args.server.now.records.history.items (g.Di.Blocks.state c.args.server.now.disk.image).blocks; causes = causes_same c.args.server.now.copies.items c.args.pairs.now c.args.server.now.records.history.items (g.Di.Blocks.state c.args.server.now.disk.image).blocks; credited = λ are. are; said = λ told. told; out = λ is told. out_none c.args.pairs.now c.args.scripts.now; told = λ tells. tells; lan = refl; linked = λ are. are; unfreed = λ keep. keep; opened = λ is linked. open_none c.args.pairs.now c.args.scripts.now; idle = λ is are over. idle_none c.args.server.now.units.items c.args.pairs.now c.args.scripts.now; taken = λ is over. ports_none c.args.lan.now c.args.scripts.now }
+loop-number-init g c = record { machine = c.requires.machine; stay = all_same c.args.pairs.now; run = run_same c.args.scripts.now; answered = c.requires.answered; received = c.requires.received; heard = c.requires.heard; grants = λ granted is. is; disk = lasts_same c.args.server.now.records.history.items (g.Di.Blocks.state c.args.server.now.disk.image).blocks; causes = causes_same c.args.server.now.copies.items c.args.pairs.now c.args.server.now.records.history.items (g.Di.Blocks.state c.args.server.now.disk.image).blocks; credited = λ are. are; said = λ told. told; out = λ is told. out_none c.args.pairs.now c.args.scripts.now; told = λ tells. tells; lan = refl; linked = λ are. are; unfreed = λ keep. keep; opened = λ is linked. open_none c.args.pairs.now c.args.scripts.now; idle = λ is are over. idle_none c.args.server.now.units.items c.args.pairs.now c.args.scripts.now; plainly = λ granted are. are; quietly = λ is granted are. quiet_none c.args.server.now.partition (books_of c.args.server.now.units.items c.args.server.now.records.grants.items c.args.server.now.records.history.items) c.args.scripts.now; taken = λ is over. ports_none c.args.lan.now c.args.scripts.now }
 
 pub loop-number-preserved : goal.loop-number-preserved
 loop-number-preserved g c =
@@ -41,6 +43,9 @@ loop-number-preserved g c =
           idle_next c.loop-number.number c.loop-number.server.units.items c.turn_at.new.server.units.items c.loop-number.pairs c.turn_at.new.pairs c.loop-number.scripts c.turn_at.new.scripts
           (omega (arith, before.run.count, after.run.count, c.loop-number-test.true)) after.elsewhere
           (c.in_ok-turned.ensures.idle (c.either-moved.ensures.other is) (before.linked are)) (before.idle (c.either-moved.ensures.one is) are);
+      plainly = λ granted are. c.in_ok-turned.ensures.plainly granted (before.plainly granted are);
+      quietly = λ is granted are.
+          c.in_ok-turned.ensures.quietly (c.either-moved.ensures.other is) granted (before.plainly granted are) (before.quietly (c.either-moved.ensures.one is) granted are);
       taken = λ is.
           ports_next c.loop-number.number c.loop-number.lan c.turn_at.new.lan c.loop-number.scripts c.turn_at.new.scripts
           (omega (arith, before.run.count, after.run.count, c.loop-number-test.true)) after.elsewhere (c.in_ok-turned.ensures.ports (c.either-moved.ensures.other is))
@@ -88,3 +93,15 @@ returns-clause-ports g c = λ is.
 
 pub returns-in_err-turned-clause-grants : goal.returns-in_err-turned-clause-grants
 returns-in_err-turned-clause-grants g c = λ granted is. c.turn_at.ensures.grants granted (c.loop-number.invariant.grants granted is)
+
+pub returns-clause-plainly : goal.returns-clause-plainly
+returns-clause-plainly g c = λ granted are.
+    let count = c.loop-number.invariant.run.count in
+    round_plainly granted c.loop-number.server.partition c.loop-number.number (books_of c.loop-number.server.units.items c.loop-number.server.records.grants.items c.loop-number.server.records.history.items) c.loop-number.pairs
+    c.loop-number.scripts (omega (arith, count, c.loop-number-test.false)) (c.loop-number.invariant.plainly granted are)
+
+pub returns-clause-quietly : goal.returns-clause-quietly
+returns-clause-quietly g c = λ is granted are.
+    let count = c.loop-number.invariant.run.count in
+    round_quietly c.loop-number.server.partition c.loop-number.number (books_of c.loop-number.server.units.items c.loop-number.server.records.grants.items c.loop-number.server.records.history.items)
+    c.loop-number.scripts (omega (arith, count, c.loop-number-test.false)) (c.loop-number.invariant.quietly is granted are)

@@ -1,4 +1,4 @@
-use Rattle.std.proofs.Common.{◌≡◌, vec_len}
+use Rattle.std.proofs.Common.{◌≡◌, ℕ, vec_len}
 use Rattle.vcpu_run.specs.Agreed.{AreCredited}
 use Rattle.vcpu_run.specs.CopiesCounted.{copies_at}
 use Rattle.vcpu_run.specs.Answered.{AreAnswered}
@@ -14,6 +14,8 @@ use Rattle.vcpu_run.specs.ScriptTold.{AreOutTo, AreTold}
 use Rattle.vcpu_run.specs.OnDisk.{LastsOnDisk}
 use Rattle.vcpu_run.specs.Machines.{AllRun, AllStay, IsMachine}
 use Rattle.vcpu_run.specs.PortsRest.{AreTakenTo}
+use Rattle.vcpu_run.specs.PlainPairs.{books_of}
+use Rattle.vcpu_run.specs.PlainRuns.{ArePlain, ArePlainTo, ArePlainlyQuietTo}
 use Rattle.vcpu_run.proofs.rounds.round.Given as goal
 
 abbrev pub invariant-loop-number : goal.invariant-loop-number
@@ -38,5 +40,9 @@ invariant-loop-number g l = record {
   opened : l.moved ≡ Quiet → AreLinked l.initial.server.units.items l.initial.pairs → IsOpenUpTo l.number l.pairs l.scripts;
   linked : AreLinked l.initial.server.units.items l.initial.pairs → AreLinked l.server.units.items l.pairs;
   idle : l.moved ≡ Quiet → AreLinked l.initial.server.units.items l.initial.pairs → AreOverTo l.number l.scripts → AreIdleTo l.number l.server.units.items l.pairs l.scripts;
+  plainly : (granted : ℕ) → ArePlain granted l.initial.server.partition (books_of l.initial.server.units.items l.initial.server.records.grants.items l.initial.server.records.history.items) l.initial.pairs l.initial.scripts
+      → ArePlainTo granted l.server.partition l.number (books_of l.server.units.items l.server.records.grants.items l.server.records.history.items) l.pairs l.scripts;
+  quietly : l.moved ≡ Quiet → (granted : ℕ) → ArePlain granted l.initial.server.partition (books_of l.initial.server.units.items l.initial.server.records.grants.items l.initial.server.records.history.items) l.initial.pairs l.initial.scripts
+      → ArePlainlyQuietTo l.server.partition l.number (books_of l.server.units.items l.server.records.grants.items l.server.records.history.items) l.scripts;
   taken : l.moved ≡ Quiet → AreOverTo l.number l.scripts → AreTakenTo l.number l.lan l.scripts;
 }

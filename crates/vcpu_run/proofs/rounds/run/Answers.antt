@@ -7,7 +7,7 @@ use Rattle.vcpu_run.proofs.Causings.{causes_same, causes_then}
 use Rattle.vcpu_run.proofs.rounds.run.Goals as goal
 
 pub loop-round-init : goal.loop-round-init
-loop-round-init g c = record { said = λ told. told; told = λ tells. tells; machine = c.requires.machine; stay = all_same c.args.pairs.now; run = run_same c.args.scripts.now; answered = c.requires.answered; received = c.requires.received; heard = c.requires.heard; grants = λ granted is. is; disk = lasts_same c.args.server.now.records.history.items (g.Di.Blocks.state c.args.server.now.disk.image).blocks; causes = causes_same c.args.server.now.copies.items c.args.pairs.now c.args.server.now.records.history.items (g.Di.Blocks.state c.args.server.now.disk.image).blocks; credited = λ are. are; lan = refl; unfreed = λ linked keep. keep; linked = λ are. are }
+loop-round-init g c = record { said = λ told. told; plainly = λ granted are. are; told = λ tells. tells; machine = c.requires.machine; stay = all_same c.args.pairs.now; run = run_same c.args.scripts.now; answered = c.requires.answered; received = c.requires.received; heard = c.requires.heard; grants = λ granted is. is; disk = lasts_same c.args.server.now.records.history.items (g.Di.Blocks.state c.args.server.now.disk.image).blocks; causes = causes_same c.args.server.now.copies.items c.args.pairs.now c.args.server.now.records.history.items (g.Di.Blocks.state c.args.server.now.disk.image).blocks; credited = λ are. are; lan = refl; unfreed = λ linked keep. keep; linked = λ are. are }
 
 pub loop-round-preserved : goal.loop-round-preserved
 loop-round-preserved g c =
@@ -28,6 +28,7 @@ loop-round-preserved g c =
           (g.Di.Blocks.state c.args.server.now.disk.image).blocks (g.Di.Blocks.state c.loop-round.server.disk.image).blocks (g.Di.Blocks.state c.step.new.server.disk.image).blocks c.loop-round.invariant.causes c.step.ensures.causes;
       credited = λ are. c.in_ok-moved.ensures.credited (before.credited are);
       said = λ told. c.in_ok-moved.ensures.said (before.said told);
+      plainly = λ granted are. c.in_ok-moved.ensures.plainly granted (before.plainly granted are);
       told = λ tells. c.in_ok-moved.ensures.told (before.told tells);
       lan = after.lan ∙ before.lan;
       unfreed = λ linked keep. c.in_ok-moved.ensures.unfreed (before.linked linked) (before.unfreed linked keep);
@@ -102,3 +103,6 @@ returns-in_err-moved-clause-grants g c = λ granted is. c.step.ensures.grants gr
 
 pub returns-then-is_end-clause-grants : goal.returns-then-is_end-clause-grants
 returns-then-is_end-clause-grants g c = λ granted is. c.step.ensures.grants granted (c.loop-round.invariant.grants granted is)
+
+pub returns-then-is_end-clause-plainly : goal.returns-then-is_end-clause-plainly
+returns-then-is_end-clause-plainly g c = λ granted are. c.in_ok-moved.ensures.plainly granted (c.loop-round.invariant.plainly granted are)

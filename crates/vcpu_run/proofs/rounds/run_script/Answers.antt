@@ -16,6 +16,7 @@ use Rattle.vcpu_run.proofs.OpenRounds.{open_turned}
 use Rattle.vcpu_run.proofs.PortTurns.{ports_turned}
 use Rattle.vcpu_run.proofs.HeardTurns.{heard_driven, tells_driven}
 use Rattle.vcpu_run.proofs.PortsResting.{set_ports}
+use Rattle.vcpu_run.proofs.PlainRuns.{quieted_plainly, turned_plainly}
 use Rattle.vcpu_run.proofs.rounds.run_script.Goals as goal
 
 pub turn-requires-clause-script : goal.turn-requires-clause-script
@@ -154,3 +155,27 @@ returns-clause-ports c =
     set_ports scripts c.args.number c.turn.new.self old.partition old.seats.items c.args.lan.now c.turn.new.lan c.requires.there
     (rw c.turn.ensures.rest.partition refl) (rw c.turn.ensures.rest.seats refl) (rests is) over)
     c.turn.ensures.ports
+
+pub returns-clause-plainly : goal.returns-clause-plainly
+returns-clause-plainly c =
+    let scripts = c.args.scripts.now in
+    let d = c.index-scripts-number.result in
+    let old = slice_index_or scripts c.args.number d in
+    let found = slice_get-get_or scripts c.args.number d c.requires.there in
+    ok_then c.turn.result _ _
+    (λ turns granted home books other is.
+    turned_plainly granted home c.args.number books c.args.pairs.now c.turn.new.pairs c.args.lan.now.seats scripts old c.turn.new.self found c.requires.scripts c.turn.ensures.others c.turn.ensures.rest
+    (subst (λ o. IsSomeAnd o (λ script. are_servers script.seats.items ≡ false)) found other) turns is)
+    c.turn.ensures.plainly
+
+pub returns-clause-quietly : goal.returns-clause-quietly
+returns-clause-quietly c =
+    let scripts = c.args.scripts.now in
+    let d = c.index-scripts-number.result in
+    let old = slice_index_or scripts c.args.number d in
+    let found = slice_get-get_or scripts c.args.number d c.requires.there in
+    ok_more c.turn.result _ _
+    (λ moved quiets is granted home books other plain quiet.
+    quieted_plainly granted home c.args.number books c.args.pairs.now c.turn.new.pairs scripts old c.turn.new.self found c.turn.ensures.rest
+    (subst (λ o. IsSomeAnd o (λ script. are_servers script.seats.items ≡ false)) found other) (quiets is) plain quiet)
+    c.turn.ensures.quiets

@@ -13,6 +13,8 @@ use Rattle.vcpu_run.specs.Received.{AreReceived}
 use Rattle.vcpu_run.specs.OnDisk.{LastsOnDisk}
 use Rattle.vcpu_run.specs.ScriptTold.{SameClients}
 use Rattle.vcpu_run.specs.Machines.{AllStay, IsServing}
+use Rattle.vcpu_run.specs.PlainPairs.{books_of}
+use Rattle.vcpu_run.proofs.PlainRounds.{IdledTo, ServedTo}
 use Rattle.vcpu_run.proofs.rounds.serve.Given as goal
 
 abbrev pub invariant-loop-unit : goal.invariant-loop-unit
@@ -34,4 +36,10 @@ invariant-loop-unit g l = record {
   linked : AreLinked l.initial.server.units.items l.initial.pairs → AreLinked l.server.units.items l.pairs;
   wait : l.moved ≡ Quiet → AreLinked l.initial.server.units.items l.initial.pairs
       → (k : ℕ) (link : LinkState) → k < l.unit → slice_get (links_of l.pairs) k ≡ Some link → ServerWaits (slice_get l.server.units.items k) link;
+  partition : l.server.partition ≡ l.initial.server.partition;
+  plainly : ServedTo l.unit l.initial.server.partition (books_of l.initial.server.units.items l.initial.server.records.grants.items l.initial.server.records.history.items)
+      (books_of l.server.units.items l.server.records.grants.items l.server.records.history.items) l.initial.pairs l.pairs;
+  idled : l.moved ≡ Quiet → IdledTo l.unit l.initial.server.partition
+      (books_of l.initial.server.units.items l.initial.server.records.grants.items l.initial.server.records.history.items)
+      (books_of l.server.units.items l.server.records.grants.items l.server.records.history.items) l.initial.pairs;
 }

@@ -20,6 +20,8 @@ use Rattle.vcpu_run.proofs.DropsKept.{more_served}
 use Rattle.vcpu_run.proofs.Listed.{each_on, each_set}
 use Rattle.vcpu_run.proofs.PairNames.{apart_stays}
 use Rattle.vcpu_run.proofs.Unfreed.{frees_set}
+use Rattle.vcpu_run.specs.PlainPairs.{ServesPlainly, ServesPlainlyAt, books_of}
+use Rattle.vcpu_run.proofs.PlainRounds.{idled_at, served_at}
 use Rattle.vcpu_run.proofs.rounds.serve_at.Goals as goal
 
 pub serve-requires-clause-pair : goal.serve-requires-clause-pair
@@ -170,3 +172,35 @@ returns-clause-causes g c = λ told tells.
 
 pub returns-clause-copies : goal.returns-clause-copies
 returns-clause-copies g c = c.serve.ensures.shows.made
+
+pub returns-clause-plainly : goal.returns-clause-plainly
+returns-clause-plainly g c =
+    let server = c.args.server.now in
+    let server' = c.serve.new.server in
+    let pairs = c.args.pairs.now in
+    let books = books_of server.units.items server.records.grants.items server.records.history.items in
+    let books' = books_of server'.units.items server'.records.grants.items server'.records.history.items in
+    let old = slice_index_or pairs c.args.unit c.index-pairs-unit.result in
+    ok_then c.serve.result (ServesPlainly server.partition books books' c.args.unit old c.serve.new.self)
+    (ServesPlainlyAt server.partition books books' pairs (slice_set pairs c.args.unit c.serve.new.self) c.args.unit)
+    (served_at server.partition books books' pairs c.args.unit old c.serve.new.self c.requires.there
+    (slice_get-get_or pairs c.args.unit c.index-pairs-unit.result c.requires.there))
+    c.serve.ensures.plainly
+
+pub returns-clause-idles : goal.returns-clause-idles
+returns-clause-idles g c =
+    let server = c.args.server.now in
+    let server' = c.serve.new.server in
+    let pairs = c.args.pairs.now in
+    let books = books_of server.units.items server.records.grants.items server.records.history.items in
+    let books' = books_of server'.units.items server'.records.grants.items server'.records.history.items in
+    let old = slice_index_or pairs c.args.unit c.index-pairs-unit.result in
+    ok_more c.serve.result _ _
+    (λ moved idles is. idled_at server.partition books books' pairs c.args.unit old (slice_get-get_or pairs c.args.unit c.index-pairs-unit.result c.requires.there) (idles is))
+    c.serve.ensures.idles
+
+pub returns-clause-plainly_else : goal.returns-clause-plainly_else
+returns-clause-plainly_else g c = c.serve.ensures.plainly_else
+
+pub returns-clause-partition : goal.returns-clause-partition
+returns-clause-partition g c = c.serve.ensures.partition

@@ -8,6 +8,7 @@ use Rattle.std.proofs.Common.{List, length, subst, sym}
 use Rattle.vcpu_run.proofs.Elsewhere.{ok_then}
 use Rattle.vcpu_run.proofs.Scripted.{run_then}
 use Rattle.vcpu_run.specs.PortsRest.{AreTakenTo}
+use Rattle.vcpu_run.specs.PlainPairs.{books_of}
 use Rattle.vcpu_run.proofs.rounds.step.Goals as goal
 
 pub returns-in-Quiet-clause-machine : goal.returns-in-Quiet-clause-machine
@@ -65,3 +66,11 @@ returns-in-Quiet-clause-ports g c =
     subst (λ (scripts : List Script). AreOverTo (length scripts) scripts → AreTakenTo (length scripts) c.round.new.lan scripts) (sym (same is))
     (c.in_ok-round.ensures.ports c.in-Quiet.is))
     c.end_lines.ensures.quiet
+
+pub returns-in-Quiet-clause-plainly : goal.returns-in-Quiet-clause-plainly
+returns-in-Quiet-clause-plainly g c =
+    ok_then c.end_lines.result _ _
+    (λ kept granted are.
+    kept granted c.round.new.server.partition (books_of c.round.new.server.units.items c.round.new.server.records.grants.items c.round.new.server.records.history.items) c.round.new.pairs
+    c.round.new.lan.seats c.round.ensures.machine.scripts_are (c.in_ok-round.ensures.quietly c.in-Quiet.is granted are) (c.in_ok-round.ensures.plainly granted are))
+    c.end_lines.ensures.plainly

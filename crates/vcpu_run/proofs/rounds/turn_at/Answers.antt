@@ -4,7 +4,7 @@ use Rattle.vcpu_run.proofs.Elsewhere.{credits_as, ok_then}
 use Rattle.vcpu_run.proofs.Resting.{ok_more}
 use Rattle.vcpu_run.proofs.Idling.{rests_clients, rests_servers}
 use Rattle.std.proofs.lemmas.Option.{slice_get-get_or}
-use Rattle.std.proofs.Common.{◌≡◌, IsSomeAnd, false, subst, vec_len, ◌∙◌, slice_index_or, sym}
+use Rattle.std.proofs.Common.{◌≡◌, ◌+◌, IsSomeAnd, false, subst, vec_len, ◌∙◌, slice_index_or, sym}
 use Rattle.vcpu_run.specs.Scripts.{are_servers}
 use Rattle.vcpu_run.proofs.Crediting.{on_ok}
 use Rattle.vcpu_run.proofs.Elsewhere.{credits_served}
@@ -15,6 +15,9 @@ use Rattle.vcpu_run.proofs.Scripted.{run_same, scripts_stay}
 use Rattle.vcpu_run.proofs.Held.{queues_served}
 use Rattle.vcpu_run.proofs.OpenRounds.{open_served}
 use Rattle.vcpu_run.proofs.PortsResting.{ok_any, servers_rest}
+use Rattle.vcpu_run.specs.PlainPairs.{books_of}
+use Rattle.vcpu_run.specs.PlainRuns.{ArePlainTo, ArePlainlyQuietTo}
+use Rattle.vcpu_run.proofs.PlainRuns.{idled_plainly, served_plainly}
 use Rattle.vcpu_run.proofs.rounds.turn_at.Goals as goal
 
 pub run_script-requires-clause-drivers : goal.run_script-requires-clause-drivers
@@ -144,3 +147,48 @@ returns-then-is_of_servers-clause-ports g c =
 
 pub returns-else-is_of_servers-clause-ports : goal.returns-else-is_of_servers-clause-ports
 returns-else-is_of_servers-clause-ports g c = c.run_script.ensures.ports
+
+pub returns-then-is_of_servers-clause-plainly : goal.returns-then-is_of_servers-clause-plainly
+returns-then-is_of_servers-clause-plainly g c =
+    ok_then c.serve.result _ _
+    (λ serves granted is.
+    subst (λ home. ArePlainTo granted home (c.args.number + 1) (books_of c.serve.new.server.units.items c.serve.new.server.records.grants.items c.serve.new.server.records.history.items) c.serve.new.pairs c.args.scripts.now) (sym c.serve.ensures.partition)
+    (served_plainly granted c.args.server.now.partition c.args.number (books_of c.args.server.now.units.items c.args.server.now.records.grants.items c.args.server.now.records.history.items)
+    (books_of c.serve.new.server.units.items c.serve.new.server.records.grants.items c.serve.new.server.records.history.items) c.args.pairs.now c.serve.new.pairs c.args.scripts.now serves c.serve.ensures.clients is))
+    c.serve.ensures.plainly
+
+pub returns-then-is_of_servers-clause-quietly : goal.returns-then-is_of_servers-clause-quietly
+returns-then-is_of_servers-clause-quietly g c =
+    let scripts = c.args.scripts.now in
+    let d = c.index-scripts-number.result in
+    ok_more c.serve.result _ _
+    (λ moved idles is granted plain quiet.
+    subst (λ home. ArePlainlyQuietTo home (c.args.number + 1) (books_of c.serve.new.server.units.items c.serve.new.server.records.grants.items c.serve.new.server.records.history.items) scripts) (sym c.serve.ensures.partition)
+    (idled_plainly granted c.args.server.now.partition c.args.number (books_of c.args.server.now.units.items c.args.server.now.records.grants.items c.args.server.now.records.history.items)
+    (books_of c.serve.new.server.units.items c.serve.new.server.records.grants.items c.serve.new.server.records.history.items) c.args.pairs.now scripts (slice_index_or scripts c.args.number d) (slice_get-get_or scripts c.args.number d c.requires.there)
+    (sym c.is_of_servers.ensures ∙ c.if-is_of_servers.true) (idles is) plain quiet))
+    c.serve.ensures.idles
+
+pub returns-else-is_of_servers-clause-plainly : goal.returns-else-is_of_servers-clause-plainly
+returns-else-is_of_servers-clause-plainly g c =
+    let scripts = c.args.scripts.now in
+    let d = c.index-scripts-number.result in
+    let old = slice_index_or scripts c.args.number d in
+    let plain : are_servers old.seats.items ≡ false = sym c.is_of_servers.ensures ∙ c.if-is_of_servers.false in
+    ok_then c.run_script.result _ _
+    (λ turns granted is.
+    turns granted c.args.server.now.partition (books_of c.args.server.now.units.items c.args.server.now.records.grants.items c.args.server.now.records.history.items)
+    (subst (λ o. IsSomeAnd o (λ script. are_servers script.seats.items ≡ false)) (sym (slice_get-get_or scripts c.args.number d c.requires.there)) plain) is)
+    c.run_script.ensures.plainly
+
+pub returns-else-is_of_servers-clause-quietly : goal.returns-else-is_of_servers-clause-quietly
+returns-else-is_of_servers-clause-quietly g c =
+    let scripts = c.args.scripts.now in
+    let d = c.index-scripts-number.result in
+    let old = slice_index_or scripts c.args.number d in
+    let plain : are_servers old.seats.items ≡ false = sym c.is_of_servers.ensures ∙ c.if-is_of_servers.false in
+    ok_more c.run_script.result _ _
+    (λ moved quiets is granted are quiet.
+    quiets is granted c.args.server.now.partition (books_of c.args.server.now.units.items c.args.server.now.records.grants.items c.args.server.now.records.history.items)
+    (subst (λ o. IsSomeAnd o (λ script. are_servers script.seats.items ≡ false)) (sym (slice_get-get_or scripts c.args.number d c.requires.there)) plain) are quiet)
+    c.run_script.ensures.quietly

@@ -7,6 +7,7 @@ use Rattle.crq_session.specs.EndState.{EndPlace}
 use Rattle.crq_session.specs.PlainState.{state_of}
 use Rattle.vcpu_run.proofs.Calming.{calm_on, calm_ready, calm_same, nothing_calm, pushes_calm}
 use Rattle.vcpu_run.proofs.CalmTurns.{calm_link}
+use Rattle.vcpu_run.proofs.PlainPushed.{stands_kept, stands_nothing, stands_put, talks_pushed}
 use Rattle.vcpu_run.proofs.seat.push_event.Goals as goal
 
 pub returns-in_err-reserve-clause-drives : goal.returns-in_err-reserve-clause-drives
@@ -66,3 +67,42 @@ returns-in-Kept-clause-calm c =
     calm_link c.side-end.result.first c.push_event.new.self.first (c.side-end.result.link.ghost_name ∷ []) (c.push_event.new.self.link.ghost_name ∷ []) c.side-end.result.link.now
     c.args.pair.now.link c.push_event.new.self.link.now c.side-end.ensures.link c.side-end.ensures.first (ap (λ (p : EndPlace). p.first) (c.push_event.ensures.rest.place ∙ room.place) ∙ c.side-end.ensures.first)
     (calm_on (state_of c.side-end.result) (state_of c.reserve.new.self) (state_of c.push_event.new.self) (calm_ready (state_of c.side-end.result) (state_of c.reserve.new.self) room) (calm_same (state_of c.reserve.new.self) (state_of c.push_event.new.self) c.in-Kept.ensures.still.full.sent c.in-Kept.ensures.still.kept))
+
+pub returns-in-Nothing-clause-plainly : goal.returns-in-Nothing-clause-plainly
+returns-in-Nothing-clause-plainly c =
+    let room = c.in_ok-reserve.ensures.rest in
+    let rest = c.push_event.ensures.rest in
+    let place = rest.place ∙ room.place in
+    let drives =
+    drives_link c.side-end.result.first c.push_event.new.self.first _ _ c.args.pair.now c.side-end.result.link.now c.push_event.new.self.link.now c.side-end.ensures.link c.side-end.ensures.first
+    place (rest.counts.same_session refl ∙ ap (λ (counts : EndCounts). counts.partner_session) room.counts)
+    (puts_ready _ _ _ room (rest.counts.same_session refl) (puts_nothing _ _ c.push_event.ensures.rest c.in-Nothing.ensures.nothing)) (if_none c.args.pair.now.driver _ (rest.registered ∙ room.registered)) in
+    talks_pushed c.side-end.result.first c.push_event.new.self.first (c.side-end.result.link.ghost_name ∷ []) (c.push_event.new.self.link.ghost_name ∷ [])
+    c.side-end.result.link.now c.args.pair.now _ c.side-end.ensures.link c.side-end.ensures.first (ap (λ (p : EndPlace). p.first) place ∙ c.side-end.ensures.first) drives refl refl
+    (stands_nothing (state_of c.side-end.result) (state_of c.reserve.new.self) (state_of c.push_event.new.self) room rest c.in-Nothing.ensures.nothing)
+
+pub returns-in-Put-clause-plainly : goal.returns-in-Put-clause-plainly
+returns-in-Put-clause-plainly c =
+    let room = c.in_ok-reserve.ensures.rest in
+    let rest = c.push_event.ensures.rest in
+    let place = rest.place ∙ room.place in
+    let drives =
+    drives_link c.side-end.result.first c.push_event.new.self.first _ _ c.args.pair.now c.side-end.result.link.now c.push_event.new.self.link.now c.side-end.ensures.link c.side-end.ensures.first
+    place (rest.counts.same_session refl ∙ ap (λ (counts : EndCounts). counts.partner_session) room.counts)
+    (puts_ready _ _ _ room (rest.counts.same_session refl) (puts_pushes _ _ c.push_event.ensures.rest c.in-Put.ensures.put)) (if_none c.args.pair.now.driver _ (rest.registered ∙ room.registered)) in
+    talks_pushed c.side-end.result.first c.push_event.new.self.first (c.side-end.result.link.ghost_name ∷ []) (c.push_event.new.self.link.ghost_name ∷ [])
+    c.side-end.result.link.now c.args.pair.now _ c.side-end.ensures.link c.side-end.ensures.first (ap (λ (p : EndPlace). p.first) place ∙ c.side-end.ensures.first) drives refl refl
+    (stands_put (state_of c.side-end.result) (state_of c.reserve.new.self) (state_of c.push_event.new.self) room c.in-Put.ensures.put)
+
+pub returns-in-Kept-clause-plainly : goal.returns-in-Kept-clause-plainly
+returns-in-Kept-clause-plainly c =
+    let room = c.in_ok-reserve.ensures.rest in
+    let rest = c.push_event.ensures.rest in
+    let place = rest.place ∙ room.place in
+    let drives =
+    drives_link c.side-end.result.first c.push_event.new.self.first _ _ c.args.pair.now c.side-end.result.link.now c.push_event.new.self.link.now c.side-end.ensures.link c.side-end.ensures.first
+    place (rest.counts.same_session refl ∙ ap (λ (counts : EndCounts). counts.partner_session) room.counts)
+    (puts_ready _ _ _ room (rest.counts.same_session refl) (puts_kept _ _ c.in-Kept.number c.in-Kept.held c.push_event.ensures.rest c.in-Kept.ensures.still)) (if_none c.args.pair.now.driver _ (rest.registered ∙ room.registered)) in
+    talks_pushed c.side-end.result.first c.push_event.new.self.first (c.side-end.result.link.ghost_name ∷ []) (c.push_event.new.self.link.ghost_name ∷ [])
+    c.side-end.result.link.now c.args.pair.now _ c.side-end.ensures.link c.side-end.ensures.first (ap (λ (p : EndPlace). p.first) place ∙ c.side-end.ensures.first) drives refl refl
+    (stands_kept (state_of c.side-end.result) (state_of c.reserve.new.self) (state_of c.push_event.new.self) c.in-Kept.number c.in-Kept.held room c.in-Kept.ensures.still)

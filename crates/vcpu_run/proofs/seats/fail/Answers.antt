@@ -8,6 +8,7 @@ use Rattle.vcpu_run.proofs.Elsewhere.{else_none, else_on, else_within}
 use Rattle.vcpu_run.proofs.Driving.{driven_on, driven_same, seat_of, still_clients}
 use Rattle.vcpu_run.proofs.PortTurns.{apart_on, beside_apart, idle_same, silent_on, silent_same}
 use Rattle.vcpu_run.proofs.GivesAll.{all_give_on, all_give_same}
+use Rattle.vcpu_run.proofs.FailedPorts.{closed_all, closed_before, closed_next}
 use Rattle.vcpu_run.proofs.FailedShut.{shut_all, shut_before, shut_next}
 use Rattle.vcpu_run.proofs.LoginsTold.{true_false}
 use Rattle.vcpu_run.proofs.seats.fail.Goals as goal
@@ -35,6 +36,8 @@ loop-k-preserved c = record {
   shut = shut_then c.args.pairs.now c.loop-k.pairs c.fail_at.new.pairs c.loop-k.invariant.shut c.fail_at.ensures.shut;
   down = shut_next c.args.seats.now c.loop-k.k (slice_index_or c.args.seats.now c.loop-k.k places.Server) c.loop-k.pairs c.fail_at.new.pairs
       (seat_of c.args.seats.now c.loop-k.k c.loop-k-test.true) c.fail_at.ensures.others (c.in_ok-fail_at.ensures.down (grind arith)) c.loop-k.invariant.down;
+  closes = closed_next c.args.partition c.args.seats.now c.loop-k.k (slice_index_or c.args.seats.now c.loop-k.k places.Server) c.loop-k.lan c.fail_at.new.lan
+      (seat_of c.args.seats.now c.loop-k.k c.loop-k-test.true) c.fail_at.ensures.beside (c.in_ok-fail_at.ensures.closes (grind arith)) c.loop-k.invariant.closes;
   others = else_on c.args.seats.now c.args.pairs.now c.loop-k.pairs c.fail_at.new.pairs c.loop-k.invariant.others
       (else_within c.args.seats.now c.loop-k.k (slice_index_or c.args.seats.now c.loop-k.k places.Server) c.loop-k.pairs c.fail_at.new.pairs
       (seat_of c.args.seats.now c.loop-k.k c.loop-k-test.true) c.fail_at.ensures.others);
@@ -111,6 +114,7 @@ loop-k-init c = record {
   lays = none_lay_same c.args.pairs.now;
   shut = shut_none c.args.pairs.now;
   down = shut_before c.args.seats.now c.args.pairs.now;
+  closes = closed_before c.args.partition c.args.seats.now c.args.lan.now;
   others = else_none c.args.seats.now c.args.pairs.now;
   credit = all_same c.args.pairs.now;
   clients = c.requires.clients;
@@ -125,3 +129,9 @@ returns-then-not-branch-clause-down c = λ is. absurd (true_false true refl (sym
 
 pub returns-clause-down : goal.returns-clause-down
 returns-clause-down c = λ is. shut_all c.args.seats.now c.loop-k.k c.loop-k.pairs (omega (arith, c.loop-k-test.false)) c.loop-k.invariant.down
+
+pub returns-then-not-branch-clause-closes : goal.returns-then-not-branch-clause-closes
+returns-then-not-branch-clause-closes c = λ is. absurd (true_false true refl (sym is))
+
+pub returns-clause-closes : goal.returns-clause-closes
+returns-clause-closes c = λ is. closed_all c.args.partition c.args.seats.now c.loop-k.k c.loop-k.lan (omega (arith, c.loop-k-test.false)) c.loop-k.invariant.closes

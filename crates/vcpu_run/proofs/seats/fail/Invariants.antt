@@ -5,6 +5,7 @@ use Rattle.vcpu_run.specs.Ports.{HavePorts}
 use Rattle.vcpu_run.specs.PortSteps.{AllSilent, IsApart}
 use Rattle.vcpu_run.specs.TakenScripts.{AllGive}
 use Rattle.vcpu_run.specs.EventsMade.{AllShut}
+use Rattle.vcpu_run.specs.FailedPorts.{AreClosedTo}
 use Rattle.vcpu_run.specs.FailedShut.{AreShutTo}
 use Rattle.vcpu_run.specs.ClientStrokes.{NoneLay}
 use Rattle.vcpu_run.specs.ValuesPut.{AllSameValues}
@@ -19,6 +20,7 @@ invariant-loop-k l = record {
   lays : NoneLay l.initial.pairs l.pairs;
   shut : AllShut l.initial.pairs l.pairs;
   down : AreShutTo l.k l.seats l.pairs;
+  closes : AreClosedTo l.partition l.k l.seats l.lan;
   others : SameElse l.seats l.initial.pairs l.pairs;
   credit : AllSame l.initial.pairs l.pairs;
   clients : HaveClients l.seats l.pairs;

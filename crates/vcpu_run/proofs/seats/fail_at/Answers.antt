@@ -1,9 +1,8 @@
-use Rattle.std.proofs.Common.{◌≡◌, ◌∙◌, ◌∷◌, [], ℕ, Some, ap, slice_get, subst, sym}
+use Rattle.std.proofs.Common.{rules, ◌≡◌, ◌∙◌, ◌∷◌, [], ℕ, Some, ap, slice_get, subst, sym}
 use Rattle.vcpu_run.proofs.Driving.{seat_within}
 use Rattle.vcpu_run.proofs.Elsewhere.{else_one}
-use Rattle.vcpu_run.proofs.PortRising.{all_silent, closes_beside}
-use Rattle.vcpu_run.proofs.PortTurns.{idle_same}
-use Rattle.vcpu_run.proofs.Crediting.{on_ok}
+use Rattle.vcpu_run.proofs.FailedPorts.{closes_silent}
+use Rattle.vcpu_run.proofs.PortTurns.{idle_same, silent_same}
 use Rattle.vcpu_run.proofs.GivesAll.{all_give_same}
 use Rattle.vcpu_run.proofs.CalmTurns.{shut_none}
 use Rattle.vcpu_run.proofs.ClientsLay.{none_lay_same}
@@ -20,24 +19,16 @@ pub fail_of-requires-clause-client : goal.fail_of-requires-clause-client
 fail_of-requires-clause-client c = c.requires.client c.in-Client.pair c.in-Client.is
 
 pub returns-in-Port-clause-idle : goal.returns-in-Port-clause-idle
-returns-in-Port-clause-idle c =
-    all_silent c.args.unit c.args.lan.now c.fail.new.self c.fail.ensures.seats c.fail.ensures.frames c.fail.ensures.counts c.fail.ensures.beside c.fail.ensures.macs c.fail.ensures.places
+returns-in-Port-clause-idle c = search (rules, closes_silent c.args.unit c.args.lan.now, silent_same)
 
 pub returns-in-Client-clause-others : goal.returns-in-Client-clause-others
 returns-in-Client-clause-others c = else_one (c.args.seat ∷ []) 0 c.in-Client.pair c.args.pairs.now c.fail_of.new.pairs (ap Some c.in-Client.is) c.fail_of.ensures.others
-
-pub returns-in-Port-clause-beside : goal.returns-in-Port-clause-beside
-returns-in-Port-clause-beside c =
-    closes_beside c.args.unit c.args.lan.now c.fail.new.self c.fail.ensures.seats c.fail.ensures.frames c.fail.ensures.counts c.fail.ensures.beside c.fail.ensures.places
 
 pub returns-in-Client-clause-beside : goal.returns-in-Client-clause-beside
 returns-in-Client-clause-beside c = λ unit _. idle_same c.args.lan.now unit
 
 pub returns-in-Server-clause-beside : goal.returns-in-Server-clause-beside
 returns-in-Server-clause-beside c = λ unit _. idle_same c.args.lan.now unit
-
-pub returns-in-Port-clause-gives : goal.returns-in-Port-clause-gives
-returns-in-Port-clause-gives c = on_ok c.fail.result _ (all_give_same c.args.pairs.now)
 
 pub returns-in-Server-clause-gives : goal.returns-in-Server-clause-gives
 returns-in-Server-clause-gives c = all_give_same c.args.pairs.now
@@ -63,8 +54,11 @@ returns-in-Client-clause-down c =
     client_here : (j k : ℕ) → sits.Client j ≡ sits.Client k → j ≡ k
     client_here j k e = cc
 
-pub returns-in-Port-clause-down : goal.returns-in-Port-clause-down
-returns-in-Port-clause-down c = ok_any c.fail.result _ (λ done is k at. absurd (cc (c.in-Port.is, at)))
-
 pub returns-in-Server-clause-down : goal.returns-in-Server-clause-down
 returns-in-Server-clause-down c = λ is k at. absurd (cc (c.in-Server.is, at))
+
+pub returns-in-Client-clause-closes : goal.returns-in-Client-clause-closes
+returns-in-Client-clause-closes c = ok_any c.fail_of.result _ (λ done is at. absurd (cc (c.in-Client.is, at)))
+
+pub returns-in-Server-clause-closes : goal.returns-in-Server-clause-closes
+returns-in-Server-clause-closes c = λ is at. absurd (cc (c.in-Server.is, at))

@@ -5,6 +5,7 @@ use Rattle.vcpu_run.proofs.Resting.{ok_more}
 use Rattle.vcpu_run.proofs.ClientsTold.{clients_same}
 use Rattle.vcpu_run.proofs.Driving.{driven_same}
 use Rattle.vcpu_run.proofs.Elsewhere.{else_one}
+use Rattle.vcpu_run.proofs.PlainSeats.{all_talk_same}
 use Rattle.vcpu_run.proofs.seats.push_event_at.Goals as goal
 
 pub push_event_of-requires : goal.push_event_of-requires
@@ -28,3 +29,6 @@ returns-in-Server-clause-clients c = clients_same c.args.pairs.now
 pub returns-in-Client-clause-others : goal.returns-in-Client-clause-others
 returns-in-Client-clause-others c =
     else_one (c.args.seat ∷ []) 0 c.in-Client.pair c.args.pairs.now c.push_event_of.new.pairs (ap Some c.in-Client.is) c.push_event_of.ensures.others
+
+pub returns-in-Server-clause-plainly : goal.returns-in-Server-clause-plainly
+returns-in-Server-clause-plainly c = all_talk_same c.args.pairs.now

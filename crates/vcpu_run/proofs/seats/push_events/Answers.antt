@@ -6,6 +6,7 @@ use Rattle.vcpu_run.proofs.Unfreed.{frees_on, frees_same}
 use Rattle.vcpu_run.proofs.Elsewhere.{else_none, else_on, else_within}
 use Rattle.vcpu_run.proofs.ClientsTold.{clients_on, clients_same}
 use Rattle.vcpu_run.proofs.Driving.{driven_on, driven_same, seat_of, seat_within, still_clients}
+use Rattle.vcpu_run.proofs.PlainSeats.{all_talk_on, all_talk_same}
 use Rattle.vcpu_run.proofs.seats.push_events.Goals as goal
 
 pub push_event_at-requires : goal.push_event_at-requires
@@ -23,6 +24,7 @@ loop-k-preserved c = record {
       (else_within c.args.seats.now c.loop-k.k (slice_index_or c.args.seats.now c.loop-k.k sits.Server) c.loop-k.pairs c.push_event_at.new.pairs
       (seat_of c.args.seats.now c.loop-k.k c.loop-k-test.true) c.push_event_at.ensures.others);
   drivers = (λ k. c.push_event_at.ensures.drivers k ∙ c.loop-k.invariant.drivers k);
+  talks = all_talk_on c.args.pairs.now c.loop-k.pairs c.push_event_at.new.pairs c.loop-k.invariant.driven c.loop-k.invariant.talks c.in_ok-here.ensures.plainly;
   same = clients_on c.args.pairs.now c.loop-k.pairs c.push_event_at.new.pairs c.loop-k.invariant.same c.push_event_at.ensures.clients;
   clients = still_clients c.args.seats.now c.loop-k.pairs c.push_event_at.new.pairs c.push_event_at.ensures.driven c.loop-k.invariant.clients;
   stays = frees_on _ c.args.pairs.now c.loop-k.pairs c.push_event_at.new.pairs c.loop-k.invariant.stays c.push_event_at.ensures.stays;
@@ -41,6 +43,7 @@ loop-k-init c = record {
   driven = driven_same c.args.pairs.now;
   others = else_none c.args.seats.now c.args.pairs.now;
   drivers = λ k. refl;
+  talks = all_talk_same c.args.pairs.now;
   same = clients_same c.args.pairs.now;
   clients = c.requires;
   stays = frees_same _ c.args.pairs.now;

@@ -6,6 +6,7 @@ use Rattle.vcpu_run.specs.Freed.{FreesNoneIf}
 use Rattle.vcpu_run.specs.Links.{EventWaits, LinksRest}
 use Rattle.vcpu_run.specs.Agreed.{SameDrivers, SameElse}
 use Rattle.vcpu_run.specs.Pairs.{AreDriven}
+use Rattle.vcpu_run.specs.PlainScripts.{AllTalkOn}
 use Rattle.vcpu_run.specs.ScriptTold.{SameClients}
 use Rattle.vcpu_run.specs.Works.{HaveClients}
 use Rattle.vcpu_run.proofs.seats.push_events.Given as goal
@@ -15,6 +16,7 @@ invariant-loop-k l = record {
   driven : AreDriven l.initial.pairs l.pairs;
   others : SameElse l.seats l.initial.pairs l.pairs;
   drivers : SameDrivers l.initial.pairs l.pairs;
+  talks : AllTalkOn l.initial.pairs l.pairs;
   same : SameClients l.initial.pairs l.pairs;
   clients : HaveClients l.seats l.pairs;
   stays : FreesNoneIf (λ _. ⊤) l.initial.pairs l.pairs;

@@ -7,6 +7,7 @@ use Rattle.vcpu_run.proofs.Opening.{set_open}
 use Rattle.vcpu_run.proofs.ClientRecords.{seat_stepped}
 use Rattle.vcpu_run.proofs.ClientsLay.{own_lay_set}
 use Rattle.vcpu_run.proofs.SeatsTold.{set_out, set_told}
+use Rattle.vcpu_run.proofs.PlainSeats.{seat_plainly}
 use Rattle.vcpu_run.proofs.seats.step_at.Goals as goal
 
 pub step-requires-clause-driver : goal.step-requires-clause-driver
@@ -47,3 +48,8 @@ returns-clause-lays c =
 pub returns-clause-region : goal.returns-clause-region
 returns-clause-region c =
     seat_stepped c.args.line.now c.step.result c.args.pairs.now c.args.pair _ c.step.new.pair (slice_get-get_or c.args.pairs.now c.args.pair _ c.requires.there) c.step.ensures.region
+
+pub returns-clause-plainly : goal.returns-clause-plainly
+returns-clause-plainly c =
+    seat_plainly c.args.line.now.verb c.args.progress.now c.step.new.progress c.step.result c.args.pairs.now c.args.pair _ c.step.new.pair
+    (slice_get-get_or c.args.pairs.now c.args.pair _ c.requires.there) c.step.ensures.plainly

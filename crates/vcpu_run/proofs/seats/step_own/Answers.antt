@@ -13,6 +13,7 @@ use Rattle.vcpu_run.proofs.ClientsLay.{line_lays, line_lays_none, none_lay_same}
 use Rattle.vcpu_run.proofs.Crediting.{on_ok}
 use Rattle.vcpu_run.proofs.Elsewhere.{else_none, else_one}
 use Rattle.vcpu_run.specs.PortWords.{done_in}
+use Rattle.vcpu_run.proofs.PlainSeats.{line_plainly, port_plainly}
 use Rattle.vcpu_run.proofs.seats.step_own.Goals as goal
 
 pub seat_at-requires : goal.seat_at-requires
@@ -162,3 +163,12 @@ pub returns-in-Port-clause-region : goal.returns-in-Port-clause-region
 returns-in-Port-clause-region c = λ k at.
     let here : slice_get c.args.seats.now c.args.line.now.unit ≡ Some places.Port = c.seat_at.ensures ∙ ap Some c.in-Port.is in
     absurd (no_port k (sym at ∙ here))
+
+pub returns-in-Client-clause-plainly : goal.returns-in-Client-clause-plainly
+returns-in-Client-clause-plainly c =
+    line_plainly c.args.seats.now c.args.line.now c.args.progress.now c.step_at.new.progress c.step_at.result c.in-Client.pair c.args.pairs.now c.step_at.new.pairs
+    (c.seat_at.ensures ∙ ap Some c.in-Client.is) c.step_at.ensures.plainly
+
+pub returns-in-Port-clause-plainly : goal.returns-in-Port-clause-plainly
+returns-in-Port-clause-plainly c =
+    port_plainly c.args.seats.now c.args.line.now c.args.progress.now c.step.new.progress c.step.result c.args.pairs.now c.args.pairs.now (c.seat_at.ensures ∙ ap Some c.in-Port.is)

@@ -112,3 +112,11 @@ returns-in-None-clause-drivers c = λ is.
   where
     not_both : (b : Bool) → b ≡ true → b ≡ false → ⊥
     not_both b is other = cc
+
+pub returns-in-Some-clause-plainly : goal.returns-in-Some-clause-plainly
+returns-in-Some-clause-plainly c = λ none.
+    let calls : is_call c.args.line.now.verb ≡ true = search rules in
+    absurd (not_both (is_call c.args.line.now.verb) calls none)
+  where
+    not_both : (b : Bool) → b ≡ true → b ≡ false → ⊥
+    not_both b is isnt = cc

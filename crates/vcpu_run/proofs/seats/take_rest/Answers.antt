@@ -15,6 +15,7 @@ use Rattle.vcpu_run.proofs.PortTelling.{idle_takes}
 use Rattle.vcpu_run.proofs.GivesAll.{all_give_on, all_give_same}
 use Rattle.vcpu_run.proofs.PortsResting.{ports_same, taken_all, taken_next}
 use Rattle.lan_script.proofs.Laws.{ports_on}
+use Rattle.vcpu_run.proofs.PlainSeats.{all_rest_on, all_rest_same}
 use Rattle.vcpu_run.proofs.seats.take_rest.Goals as goal
 
 pub take_rest_at-requires-clause-client : goal.take_rest_at-requires-clause-client
@@ -38,6 +39,7 @@ pub loop-k-preserved : goal.loop-k-preserved
 loop-k-preserved c = record {
   driven = driven_on c.args.pairs.now c.loop-k.pairs c.take_rest_at.new.pairs c.loop-k.invariant.driven c.take_rest_at.ensures.driven;
   gives = all_give_on c.args.pairs.now c.loop-k.pairs c.take_rest_at.new.pairs c.loop-k.invariant.gives c.in_ok-here.ensures.gives;
+  rests = all_rest_on c.args.pairs.now c.loop-k.pairs c.take_rest_at.new.pairs c.loop-k.invariant.driven c.loop-k.invariant.rests c.in_ok-here.ensures.plainly;
   values = values_then c.args.pairs.now c.loop-k.pairs c.take_rest_at.new.pairs c.loop-k.invariant.values c.take_rest_at.ensures.values;
   lays = none_lay_on c.args.pairs.now c.loop-k.pairs c.take_rest_at.new.pairs c.loop-k.invariant.lays c.take_rest_at.ensures.lays;
   calm = calm_then c.args.pairs.now c.loop-k.pairs c.take_rest_at.new.pairs c.loop-k.invariant.calm c.take_rest_at.ensures.calm;
@@ -78,6 +80,7 @@ pub loop-k-init : goal.loop-k-init
 loop-k-init c = record {
   driven = driven_same c.args.pairs.now;
   gives = all_give_same c.args.pairs.now;
+  rests = all_rest_same c.args.pairs.now;
   values = λ k. refl;
   lays = none_lay_same c.args.pairs.now;
   calm = calm_none c.args.pairs.now;

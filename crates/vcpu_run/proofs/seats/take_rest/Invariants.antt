@@ -10,6 +10,7 @@ use Rattle.vcpu_run.specs.Agreed.{SameElse}
 use Rattle.vcpu_run.specs.Pairs.{AreDriven}
 use Rattle.vcpu_run.specs.Ports.{HavePorts}
 use Rattle.vcpu_run.specs.PortSteps.{AllTake, IsApart}
+use Rattle.vcpu_run.specs.PlainScripts.{AllRestPlainly}
 use Rattle.vcpu_run.specs.TakenScripts.{AllGive}
 use Rattle.vcpu_run.specs.EventsMade.{AllCalm}
 use Rattle.vcpu_run.specs.FailedShut.{AllStayShut}
@@ -22,6 +23,7 @@ abbrev pub invariant-loop-k : goal.invariant-loop-k
 invariant-loop-k l = record {
   driven : AreDriven l.initial.pairs l.pairs;
   gives : AllGive l.initial.pairs l.pairs;
+  rests : AllRestPlainly l.initial.pairs l.pairs;
   values : AllSameValues l.initial.pairs l.pairs;
   lays : NoneLay l.initial.pairs l.pairs;
   calm : AllCalm l.initial.pairs l.pairs;

@@ -11,6 +11,7 @@ use Rattle.vcpu_run.proofs.PortsResting.{ok_any, seat_none, seat_port}
 use Rattle.vcpu_run.proofs.CalmTurns.{calm_none}
 use Rattle.vcpu_run.proofs.FailedShut.{stay_none}
 use Rattle.vcpu_run.proofs.ClientsLay.{none_lay_same}
+use Rattle.vcpu_run.proofs.PlainSeats.{all_rest_same}
 use Rattle.vcpu_run.proofs.seats.take_rest_at.Goals as goal
 
 pub take_rest_of-requires-clause-there : goal.take_rest_of-requires-clause-there
@@ -74,3 +75,9 @@ returns-in-Port-clause-stays_shut c = stay_none c.args.pairs.now
 
 pub returns-in-Server-clause-stays_shut : goal.returns-in-Server-clause-stays_shut
 returns-in-Server-clause-stays_shut c = stay_none c.args.pairs.now
+
+pub returns-in-Port-clause-plainly : goal.returns-in-Port-clause-plainly
+returns-in-Port-clause-plainly c = on_ok c.take_rest.result _ (all_rest_same c.args.pairs.now)
+
+pub returns-in-Server-clause-plainly : goal.returns-in-Server-clause-plainly
+returns-in-Server-clause-plainly c = all_rest_same c.args.pairs.now

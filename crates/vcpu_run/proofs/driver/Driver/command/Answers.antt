@@ -12,6 +12,8 @@ use Rattle.vcpu_run.proofs.TakingCalls.{submit_taken}
 use Rattle.vcpu_run.proofs.DataSent.{command_sends}
 use Rattle.vcpu_run.proofs.EventsHeard.{sent_none}
 use Rattle.vcpu_run.proofs.Giving.{asks_hear}
+use Rattle.vcpu_run.specs.PlainSteps.{own_by}
+use Rattle.vcpu_run.proofs.PlainRequests.{command_plainly}
 use Rattle.vcpu_run.proofs.driver.Driver.command.Goals as goal
 
 pub returns-clause-works : goal.returns-clause-works
@@ -89,3 +91,11 @@ returns-clause-shut g c = λ verb is.
     (ports g.C.CrqEnd.is_shared (g.C.CrqEnd.state c.args.crq.now.end) g.O.WindowPort.is_shared (g.O.WindowPort.state c.args.own.now))
     (ports g.C.CrqEnd.is_shared (g.C.CrqEnd.state c.submit.new.crq.end) g.O.WindowPort.is_shared (g.O.WindowPort.state c.submit.new.own))
     c.submit.result c.sent.result is c.sent.ensures.sent c.sent.ensures.why c.submit.ensures.crq_rest.place c.submit.ensures.refused c.submit.ensures.why
+
+pub returns-clause-plainly : goal.returns-clause-plainly
+returns-clause-plainly g c = λ crq_alone own_alone verb p is.
+    command_plainly g.C.CrqEnd.is_shared g.O.WindowPort.is_shared c.args.line c.args.op.now
+    (own_by c.args.self.now.client (g.C.CrqEnd.state c.args.crq.now.end) (g.O.WindowPort.state c.args.own.now))
+    (own_by c.submit.new.self (g.C.CrqEnd.state c.submit.new.crq.end) (g.O.WindowPort.state c.submit.new.own))
+    c.submit.result c.sent.result c.sent.ensures.sent c.sent.ensures.why c.sent.ensures.memory c.submit.ensures.refused c.submit.ensures.sent c.submit.ensures.why
+    c.submit.ensures.crq_rest c.submit.ensures.own_rest crq_alone own_alone verb p is c.requires.fits

@@ -8,6 +8,8 @@ use Rattle.vcpu_run.proofs.CallsLay.{reads_none_laid}
 use Rattle.vcpu_run.proofs.DataGiven.{given_few, told_read, told_stale, told_unknown}
 use Rattle.vcpu_run.proofs.TakingCalls.{tags_still}
 use Rattle.vcpu_run.proofs.TakingData.{data_waits, known_taken, not_unknown, unknown_taken}
+use Rattle.vcpu_run.specs.PlainSteps.{own_by}
+use Rattle.vcpu_run.proofs.PlainAside.{data_steps}
 use Rattle.vcpu_run.proofs.driver.Driver.data.Goals as goal
 
 pub returns-in-Err-Unknown-clause-takes : goal.returns-in-Err-Unknown-clause-takes
@@ -63,3 +65,26 @@ returns-in-Err-InUse-clause-marks g c = reads_none_laid g.O.WindowPort.is_shared
 
 pub returns-in-Err-NoMemory-clause-marks : goal.returns-in-Err-NoMemory-clause-marks
 returns-in-Err-NoMemory-clause-marks g c = reads_none_laid g.O.WindowPort.is_shared (g.O.WindowPort.state c.args.own.now) (g.O.WindowPort.state c.data_of.new.own) c.data_of.ensures.rest
+
+pub returns-in-Ok-clause-plainly : goal.returns-in-Ok-clause-plainly
+returns-in-Ok-clause-plainly g c = λ alone end p.
+    data_steps g.O.WindowPort.is_shared c.args.tag p (own_by c.args.self.now.client end (g.O.WindowPort.state c.args.own.now))
+    (own_by c.data_of.new.self end (g.O.WindowPort.state c.data_of.new.own)) _ alone c.data_of.ensures.same refl c.data_of.ensures.rest
+
+pub returns-in-Err-Unknown-clause-plainly : goal.returns-in-Err-Unknown-clause-plainly
+returns-in-Err-Unknown-clause-plainly g c = λ alone end p.
+    data_steps g.O.WindowPort.is_shared c.args.tag p (own_by c.args.self.now.client end (g.O.WindowPort.state c.args.own.now))
+    (own_by c.data_of.new.self end (g.O.WindowPort.state c.data_of.new.own)) _ alone c.data_of.ensures.same refl c.data_of.ensures.rest
+
+pub returns-in-Err-Stale-clause-plainly : goal.returns-in-Err-Stale-clause-plainly
+returns-in-Err-Stale-clause-plainly g c = λ alone end p.
+    data_steps g.O.WindowPort.is_shared c.args.tag p (own_by c.args.self.now.client end (g.O.WindowPort.state c.args.own.now))
+    (own_by c.data_of.new.self end (g.O.WindowPort.state c.data_of.new.own)) _ alone c.data_of.ensures.same refl c.data_of.ensures.rest
+
+pub returns-in-Err-InUse-clause-plainly : goal.returns-in-Err-InUse-clause-plainly
+returns-in-Err-InUse-clause-plainly g c = λ alone end p.
+    data_steps g.O.WindowPort.is_shared c.args.tag p (own_by c.args.self.now.client end (g.O.WindowPort.state c.args.own.now))
+    (own_by c.data_of.new.self end (g.O.WindowPort.state c.data_of.new.own)) _ alone c.data_of.ensures.same refl c.data_of.ensures.rest
+
+pub returns-in-Err-NoMemory-clause-plainly : goal.returns-in-Err-NoMemory-clause-plainly
+returns-in-Err-NoMemory-clause-plainly g c = λ alone end p plain granted unit server server' now spares stays talks come. tt

@@ -1,4 +1,5 @@
-use Rattle.std.proofs.Common.{refl}
+use Rattle.std.proofs.Common.{◌≡◌, refl, rules}
+use Rattle.std.specs.Prelude.{Err}
 use Rattle.boot_text.specs.declared.verb.Verb.TheVariants as verbs
 use Rattle.vscsi_client.specs.Ports.{ports}
 use Rattle.vscsi_client.specs.Turned.{site}
@@ -13,6 +14,8 @@ use Rattle.vcpu_run.proofs.TakingTurns.{tags_runs, turned_taken}
 use Rattle.vcpu_run.proofs.EventsHeard.{turned_hears}
 use Rattle.vcpu_run.specs.DropsShown.{IsFullBy}
 use Rattle.vcpu_run.proofs.DropsShown.{turned_full}
+use Rattle.vcpu_run.specs.PlainSteps.{own_by}
+use Rattle.vcpu_run.proofs.PlainLogsIn.{logs_err, logs_in_plainly}
 use Rattle.vcpu_run.proofs.driver.Driver.login.Goals as goal
 
 pub returns-in_err-turn-clause-works : goal.returns-in_err-turn-clause-works
@@ -91,3 +94,15 @@ returns-clause-hears g c =
 
 pub returns-clause-full : goal.returns-clause-full
 returns-clause-full g c = turned_full (IsFullBy g.C.CrqEnd.is_shared (g.C.CrqEnd.state c.login_turn.new.crq.end)) c.in_ok-turn.turn c.turned.result c.turned.ensures
+
+pub returns-in_err-turn-clause-plainly : goal.returns-in_err-turn-clause-plainly
+returns-in_err-turn-clause-plainly g c = λ crq_alone own_alone.
+    let same : c.from_residual.result ≡ Err c.in_err-turn.field-0.0 = search rules in
+    logs_err (own_by c.args.self.now.client (g.C.CrqEnd.state c.args.crq.now.end) (g.O.WindowPort.state c.args.own.now))
+    (own_by c.login_turn.new.self (g.C.CrqEnd.state c.login_turn.new.crq.end) (g.O.WindowPort.state c.login_turn.new.own)) c.from_residual.result c.in_err-turn.field-0.0 same
+
+pub returns-clause-plainly : goal.returns-clause-plainly
+returns-clause-plainly g c = λ crq_alone own_alone.
+    let a = site c.args.self.now.client (ports g.C.CrqEnd.is_shared (g.C.CrqEnd.state c.args.crq.now.end) g.O.WindowPort.is_shared (g.O.WindowPort.state c.args.own.now)) in
+    let b = site c.login_turn.new.self (ports g.C.CrqEnd.is_shared (g.C.CrqEnd.state c.login_turn.new.crq.end) g.O.WindowPort.is_shared (g.O.WindowPort.state c.login_turn.new.own)) in
+    logs_in_plainly c.args.line a b c.in_ok-turn.turn c.turned.result crq_alone own_alone c.in_ok-turn.ensures.turned c.turned.ensures

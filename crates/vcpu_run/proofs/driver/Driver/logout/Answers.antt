@@ -11,6 +11,8 @@ use Rattle.vcpu_run.proofs.Giving.{asks_gives, logout_kept}
 use Rattle.vcpu_run.proofs.TakingCalls.{logout_taken}
 use Rattle.vcpu_run.proofs.EventsHeard.{sent_none}
 use Rattle.vcpu_run.proofs.Giving.{asks_hear}
+use Rattle.vcpu_run.specs.PlainSteps.{own_by}
+use Rattle.vcpu_run.proofs.PlainRequests.{logout_plainly}
 use Rattle.vcpu_run.proofs.driver.Driver.logout.Goals as goal
 
 pub returns-clause-works : goal.returns-clause-works
@@ -81,3 +83,11 @@ returns-clause-shut g c =
     (ports g.C.CrqEnd.is_shared (g.C.CrqEnd.state c.args.crq.now.end) g.O.WindowPort.is_shared (g.O.WindowPort.state c.args.own.now))
     (ports g.C.CrqEnd.is_shared (g.C.CrqEnd.state c.logout.new.crq.end) g.O.WindowPort.is_shared (g.O.WindowPort.state c.logout.new.own))
     c.logout.result c.sent.result c.sent.ensures.sent c.sent.ensures.why c.logout.ensures.crq_rest.place c.logout.ensures.refused c.logout.ensures.why
+
+pub returns-clause-plainly : goal.returns-clause-plainly
+returns-clause-plainly g c =
+    logout_plainly g.C.CrqEnd.is_shared g.O.WindowPort.is_shared c.args.line
+    (own_by c.args.self.now.client (g.C.CrqEnd.state c.args.crq.now.end) (g.O.WindowPort.state c.args.own.now))
+    (own_by c.logout.new.self (g.C.CrqEnd.state c.logout.new.crq.end) (g.O.WindowPort.state c.logout.new.own))
+    c.logout.result c.sent.result c.sent.ensures.sent c.sent.ensures.why c.sent.ensures.memory c.logout.ensures.refused c.logout.ensures.same c.logout.ensures.sent c.logout.ensures.why
+    c.logout.ensures.crq_rest c.logout.ensures.own_rest

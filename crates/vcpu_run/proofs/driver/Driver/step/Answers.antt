@@ -40,6 +40,9 @@ use Rattle.vcpu_run.specs.DataRead.{given_by}
 use Rattle.vcpu_run.specs.DataKept.{range_in}
 use Rattle.vcpu_run.specs.EventsPut.{StepMakes}
 use Rattle.vcpu_run.proofs.Calming.{calm_same}
+use Rattle.vcpu_run.specs.PlainSteps.{own_by}
+use Rattle.vcpu_run.proofs.PlainAside.{fill_plainly, peek_plainly, poke_plainly, steps_as, tce_plainly}
+use Rattle.vcpu_run.proofs.PlainResets.{login_steps}
 use Rattle.vcpu_run.proofs.driver.Driver.step.Goals as goal
 
 pub returns-in-Some-clause-credit : goal.returns-in-Some-clause-credit
@@ -53,8 +56,7 @@ returns-in-Some-clause-told g c = c.command.ensures.told c.args.line.now.verb c.
 
 pub returns-in-Some-clause-out : goal.returns-in-Some-clause-out
 returns-in-Some-clause-out g c = λ alone.
-    other_out c.args.line.now.verb (seated c.args.self.now.client c.args.progress.now (g.C.CrqEnd.state c.args.crq.now.end).registered)
-    (seated c.command.new.self.client c.args.progress.now (g.C.CrqEnd.state c.command.new.crq.end).registered)
+    other_out c.args.line.now.verb (seated c.args.self.now.client c.args.progress.now (g.C.CrqEnd.state c.args.crq.now.end).registered) (seated c.command.new.self.client c.args.progress.now (g.C.CrqEnd.state c.command.new.crq.end).registered)
     c.command.result (asks_plain c.args.line.now.verb (asks_by c.args.line.now.verb c.in-Some.op c.in-Some.ensures.command)).1
 
 pub returns-in-Some-clause-shows : goal.returns-in-Some-clause-shows
@@ -101,81 +103,67 @@ returns-in-Some-clause-works g c =
     works_as _ _ _ _ _ _ _ _ _ _ _ _ (sym (asks_plain c.args.line.now.verb (asks_by c.args.line.now.verb c.in-Some.op c.in-Some.ensures.command)).1) mark c.command.ensures.works
 
 pub returns-in-Some-clause-region : goal.returns-in-Some-clause-region
-returns-in-Some-clause-region g c =
-    not_in_region g.O.WindowPort.is_shared c.args.line.now (g.O.WindowPort.state c.args.own.now) (g.O.WindowPort.state c.command.new.own) c.command.result
-    (sends_apart c.args.line.now.verb c.in-Some.ensures.sends)
+returns-in-Some-clause-region g c = not_in_region g.O.WindowPort.is_shared c.args.line.now (g.O.WindowPort.state c.args.own.now) (g.O.WindowPort.state c.command.new.own) c.command.result (sends_apart c.args.line.now.verb c.in-Some.ensures.sends)
 
 pub returns-in-Login-clause-credit : goal.returns-in-Login-clause-credit
-returns-in-Login-clause-credit g c =
-    fresh_both c.args.line.now.verb (taken_in c.args.progress.now) c.args.self.now.client c.login.new.self.client c.login.result (ap is_take c.in-Login.is)
-    (c.login.ensures.credit c.args.line.now.verb)
+returns-in-Login-clause-credit g c = fresh_both c.args.line.now.verb (taken_in c.args.progress.now) c.args.self.now.client c.login.new.self.client c.login.result (ap is_take c.in-Login.is) (c.login.ensures.credit c.args.line.now.verb)
 
 pub returns-in-Logout-clause-credit : goal.returns-in-Logout-clause-credit
 returns-in-Logout-clause-credit g c =
-    fresh_both c.args.line.now.verb (taken_in c.args.progress.now) c.args.self.now.client c.logout.new.self.client c.logout.result (ap is_take c.in-Logout.is)
-    (c.logout.ensures.credit c.args.line.now.verb (ap uses_credit c.in-Logout.is))
+    fresh_both c.args.line.now.verb (taken_in c.args.progress.now) c.args.self.now.client c.logout.new.self.client c.logout.result (ap is_take c.in-Logout.is) (c.logout.ensures.credit c.args.line.now.verb (ap uses_credit c.in-Logout.is))
 
 pub returns-in-Task-clause-credit : goal.returns-in-Task-clause-credit
 returns-in-Task-clause-credit g c =
-    fresh_both c.args.line.now.verb (taken_in c.args.progress.now) c.args.self.now.client c.task.new.self.client c.task.result (ap is_take c.in-Task.is)
-    (c.task.ensures.credit c.args.line.now.verb (ap uses_credit c.in-Task.is))
+    fresh_both c.args.line.now.verb (taken_in c.args.progress.now) c.args.self.now.client c.task.new.self.client c.task.result (ap is_take c.in-Task.is) (c.task.ensures.credit c.args.line.now.verb (ap uses_credit c.in-Task.is))
 
 pub returns-in-Login-clause-told : goal.returns-in-Login-clause-told
 returns-in-Login-clause-told g c =
     told_as (g.O.WindowPort.state c.args.own.now).place.size c.args.line.now.verb _
-    (seated c.args.self.now.client c.args.progress.now (g.C.CrqEnd.state c.args.crq.now.end).registered)
-    (seated c.login.new.self.client c.args.progress.now (g.C.CrqEnd.state c.login.new.crq.end).registered)
+    (seated c.args.self.now.client c.args.progress.now (g.C.CrqEnd.state c.args.crq.now.end).registered) (seated c.login.new.self.client c.args.progress.now (g.C.CrqEnd.state c.login.new.crq.end).registered)
     c.login.result c.in-Login.is (c.login.ensures.told c.args.progress.now)
 
 pub returns-in-Reset-clause-told : goal.returns-in-Reset-clause-told
 returns-in-Reset-clause-told g c =
     told_as (g.O.WindowPort.state c.args.own.now).place.size c.args.line.now.verb _
-    (seated c.args.self.now.client c.args.progress.now (g.C.CrqEnd.state c.args.crq.now.end).registered)
-    (seated c.reset.new.self.client c.reset.new.progress (g.C.CrqEnd.state c.reset.new.crq.end).registered)
+    (seated c.args.self.now.client c.args.progress.now (g.C.CrqEnd.state c.args.crq.now.end).registered) (seated c.reset.new.self.client c.reset.new.progress (g.C.CrqEnd.state c.reset.new.crq.end).registered)
     c.reset.result c.in-Reset.is (c.reset.ensures.told)
 
 pub returns-in-Logout-clause-told : goal.returns-in-Logout-clause-told
 returns-in-Logout-clause-told g c =
     told_as (g.O.WindowPort.state c.args.own.now).place.size c.args.line.now.verb _
-    (seated c.args.self.now.client c.args.progress.now (g.C.CrqEnd.state c.args.crq.now.end).registered)
-    (seated c.logout.new.self.client c.args.progress.now (g.C.CrqEnd.state c.logout.new.crq.end).registered)
+    (seated c.args.self.now.client c.args.progress.now (g.C.CrqEnd.state c.args.crq.now.end).registered) (seated c.logout.new.self.client c.args.progress.now (g.C.CrqEnd.state c.logout.new.crq.end).registered)
     c.logout.result c.in-Logout.is (c.logout.ensures.told c.args.progress.now)
 
 pub returns-in-Task-clause-told : goal.returns-in-Task-clause-told
 returns-in-Task-clause-told g c =
     told_as (g.O.WindowPort.state c.args.own.now).place.size c.args.line.now.verb _
-    (seated c.args.self.now.client c.args.progress.now (g.C.CrqEnd.state c.args.crq.now.end).registered)
-    (seated c.task.new.self.client c.args.progress.now (g.C.CrqEnd.state c.task.new.crq.end).registered)
+    (seated c.args.self.now.client c.args.progress.now (g.C.CrqEnd.state c.args.crq.now.end).registered) (seated c.task.new.self.client c.args.progress.now (g.C.CrqEnd.state c.task.new.crq.end).registered)
     c.task.result c.in-Task.is (c.task.ensures.told _ c.args.progress.now refl refl)
 
 pub returns-in-Take-clause-told : goal.returns-in-Take-clause-told
 returns-in-Take-clause-told g c =
     told_as (g.O.WindowPort.state c.args.own.now).place.size c.args.line.now.verb _
-    (seated c.args.self.now.client c.args.progress.now (g.C.CrqEnd.state c.args.crq.now.end).registered)
-    (seated c.take_on.new.self.client c.take_on.new.progress (g.C.CrqEnd.state c.take_on.new.crq.end).registered)
+    (seated c.args.self.now.client c.args.progress.now (g.C.CrqEnd.state c.args.crq.now.end).registered) (seated c.take_on.new.self.client c.take_on.new.progress (g.C.CrqEnd.state c.take_on.new.crq.end).registered)
     c.take_on.result c.in-Take.is (c.take_on.ensures.told)
 
 pub returns-in-Data-clause-told : goal.returns-in-Data-clause-told
 returns-in-Data-clause-told g c =
     aside_told (g.O.WindowPort.state c.args.own.now).place.size c.args.line.now.verb
-    (seated c.args.self.now.client c.args.progress.now (g.C.CrqEnd.state c.args.crq.now.end).registered)
-    (seated c.data.new.self.client c.args.progress.now (g.C.CrqEnd.state c.args.crq.now.end).registered)
+    (seated c.args.self.now.client c.args.progress.now (g.C.CrqEnd.state c.args.crq.now.end).registered) (seated c.data.new.self.client c.args.progress.now (g.C.CrqEnd.state c.args.crq.now.end).registered)
     c.data.result (aside_as c.args.line.now.verb _ c.in-Data.is (record { no_ask = refl; no_logout = refl; no_take = refl; no_reset = refl })) c.data.ensures.client refl refl c.data.ensures.plain
     (λ login outcome is. says_nothing (g.O.WindowPort.state c.args.own.now).place.size login c.args.line.now.verb outcome (ap asks c.in-Data.is) (ap is_logout c.in-Data.is) (ap is_own c.in-Data.is))
 
 pub returns-in-Fill-clause-told : goal.returns-in-Fill-clause-told
 returns-in-Fill-clause-told g c =
     aside_told (g.O.WindowPort.state c.args.own.now).place.size c.args.line.now.verb
-    (seated c.args.self.now.client c.args.progress.now (g.C.CrqEnd.state c.args.crq.now.end).registered)
-    (seated c.args.self.now.client c.args.progress.now (g.C.CrqEnd.state c.args.crq.now.end).registered)
+    (seated c.args.self.now.client c.args.progress.now (g.C.CrqEnd.state c.args.crq.now.end).registered) (seated c.args.self.now.client c.args.progress.now (g.C.CrqEnd.state c.args.crq.now.end).registered)
     c.fill.result (aside_as c.args.line.now.verb _ c.in-Fill.is (record { no_ask = refl; no_logout = refl; no_take = refl; no_reset = refl })) refl refl refl c.fill.ensures.plain
     (fill_says g.O.WindowPort.is_shared (g.O.WindowPort.state c.args.own.now) (g.O.WindowPort.state c.fill.new.own) c.in-Fill.at c.in-Fill.len c.in-Fill.seed _ c.args.line.now.verb c.fill.result c.in-Fill.is c.fill.ensures.answer)
 
 pub returns-in-Poke-clause-told : goal.returns-in-Poke-clause-told
 returns-in-Poke-clause-told g c =
     aside_told (g.O.WindowPort.state c.args.own.now).place.size c.args.line.now.verb
-    (seated c.args.self.now.client c.args.progress.now (g.C.CrqEnd.state c.args.crq.now.end).registered)
-    (seated c.args.self.now.client c.args.progress.now (g.C.CrqEnd.state c.args.crq.now.end).registered)
+    (seated c.args.self.now.client c.args.progress.now (g.C.CrqEnd.state c.args.crq.now.end).registered) (seated c.args.self.now.client c.args.progress.now (g.C.CrqEnd.state c.args.crq.now.end).registered)
     c.poke.result (aside_as c.args.line.now.verb _ c.in-Poke.is (record { no_ask = refl; no_logout = refl; no_take = refl; no_reset = refl })) refl refl refl c.poke.ensures.plain
     (poke_says g.O.WindowPort.is_shared (g.O.WindowPort.state c.args.own.now) (g.O.WindowPort.state c.poke.new.own) c.in-Poke.at c.in-Poke.bytes c.from-mark.result c.args.line.now.verb c.poke.result c.in-Poke.is
     (subst (λ (bytes : List ℕ). IfOk c.poke.result (AnswersWrite g.O.WindowPort.is_shared (g.O.WindowPort.state c.args.own.now) (g.O.WindowPort.state c.poke.new.own) c.in-Poke.at bytes c.from-mark.result))
@@ -184,77 +172,65 @@ returns-in-Poke-clause-told g c =
 pub returns-in-Peek-clause-told : goal.returns-in-Peek-clause-told
 returns-in-Peek-clause-told g c =
     aside_told (g.O.WindowPort.state c.args.own.now).place.size c.args.line.now.verb
-    (seated c.args.self.now.client c.args.progress.now (g.C.CrqEnd.state c.args.crq.now.end).registered)
-    (seated c.args.self.now.client c.args.progress.now (g.C.CrqEnd.state c.args.crq.now.end).registered)
+    (seated c.args.self.now.client c.args.progress.now (g.C.CrqEnd.state c.args.crq.now.end).registered) (seated c.args.self.now.client c.args.progress.now (g.C.CrqEnd.state c.args.crq.now.end).registered)
     c.peek.result (aside_as c.args.line.now.verb _ c.in-Peek.is (record { no_ask = refl; no_logout = refl; no_take = refl; no_reset = refl })) refl refl refl c.peek.ensures.plain
     (peek_says (g.O.WindowPort.state c.args.own.now) (g.O.WindowPort.state c.peek.new.own) c.in-Peek.at c.in-Peek.len c.args.line.now.verb c.peek.result c.in-Peek.is c.peek.ensures.window.place c.peek.ensures.answer)
 
 pub returns-in-Tce-clause-told : goal.returns-in-Tce-clause-told
 returns-in-Tce-clause-told g c =
     aside_told (g.O.WindowPort.state c.args.own.now).place.size c.args.line.now.verb
-    (seated c.args.self.now.client c.args.progress.now (g.C.CrqEnd.state c.args.crq.now.end).registered)
-    (seated c.args.self.now.client c.args.progress.now (g.C.CrqEnd.state c.args.crq.now.end).registered)
+    (seated c.args.self.now.client c.args.progress.now (g.C.CrqEnd.state c.args.crq.now.end).registered) (seated c.args.self.now.client c.args.progress.now (g.C.CrqEnd.state c.args.crq.now.end).registered)
     c.put_tce.result (aside_as c.args.line.now.verb _ c.in-Tce.is (record { no_ask = refl; no_logout = refl; no_take = refl; no_reset = refl })) refl refl refl c.put_tce.ensures.plain
     (tce_says (g.O.WindowPort.state c.args.own.now) (g.O.WindowPort.state c.put_tce.new.own) c.in-Tce.entry c.in-Tce.page c.in-Tce.readable c.in-Tce.writable c.args.line.now.verb c.put_tce.result c.in-Tce.is c.put_tce.ensures.answer)
 
 pub returns-in-Login-clause-out : goal.returns-in-Login-clause-out
 returns-in-Login-clause-out g c = λ alone.
-    other_out c.args.line.now.verb (seated c.args.self.now.client c.args.progress.now (g.C.CrqEnd.state c.args.crq.now.end).registered)
-    (seated c.login.new.self.client c.args.progress.now (g.C.CrqEnd.state c.login.new.crq.end).registered)
+    other_out c.args.line.now.verb (seated c.args.self.now.client c.args.progress.now (g.C.CrqEnd.state c.args.crq.now.end).registered) (seated c.login.new.self.client c.args.progress.now (g.C.CrqEnd.state c.login.new.crq.end).registered)
     c.login.result (ap is_reset c.in-Login.is)
 
 pub returns-in-Reset-clause-out : goal.returns-in-Reset-clause-out
 returns-in-Reset-clause-out g c = λ alone.
-    out_as c.args.line.now.verb _ (seated c.args.self.now.client c.args.progress.now (g.C.CrqEnd.state c.args.crq.now.end).registered)
-    (seated c.reset.new.self.client c.reset.new.progress (g.C.CrqEnd.state c.reset.new.crq.end).registered)
+    out_as c.args.line.now.verb _ (seated c.args.self.now.client c.args.progress.now (g.C.CrqEnd.state c.args.crq.now.end).registered) (seated c.reset.new.self.client c.reset.new.progress (g.C.CrqEnd.state c.reset.new.crq.end).registered)
     c.reset.result c.in-Reset.is (c.reset.ensures.out alone)
 
 pub returns-in-Logout-clause-out : goal.returns-in-Logout-clause-out
 returns-in-Logout-clause-out g c = λ alone.
-    other_out c.args.line.now.verb (seated c.args.self.now.client c.args.progress.now (g.C.CrqEnd.state c.args.crq.now.end).registered)
-    (seated c.logout.new.self.client c.args.progress.now (g.C.CrqEnd.state c.logout.new.crq.end).registered)
+    other_out c.args.line.now.verb (seated c.args.self.now.client c.args.progress.now (g.C.CrqEnd.state c.args.crq.now.end).registered) (seated c.logout.new.self.client c.args.progress.now (g.C.CrqEnd.state c.logout.new.crq.end).registered)
     c.logout.result (ap is_reset c.in-Logout.is)
 
 pub returns-in-Task-clause-out : goal.returns-in-Task-clause-out
 returns-in-Task-clause-out g c = λ alone.
-    other_out c.args.line.now.verb (seated c.args.self.now.client c.args.progress.now (g.C.CrqEnd.state c.args.crq.now.end).registered)
-    (seated c.task.new.self.client c.args.progress.now (g.C.CrqEnd.state c.task.new.crq.end).registered)
+    other_out c.args.line.now.verb (seated c.args.self.now.client c.args.progress.now (g.C.CrqEnd.state c.args.crq.now.end).registered) (seated c.task.new.self.client c.args.progress.now (g.C.CrqEnd.state c.task.new.crq.end).registered)
     c.task.result (ap is_reset c.in-Task.is)
 
 pub returns-in-Take-clause-out : goal.returns-in-Take-clause-out
 returns-in-Take-clause-out g c = λ alone.
-    other_out c.args.line.now.verb (seated c.args.self.now.client c.args.progress.now (g.C.CrqEnd.state c.args.crq.now.end).registered)
-    (seated c.take_on.new.self.client c.take_on.new.progress (g.C.CrqEnd.state c.take_on.new.crq.end).registered)
+    other_out c.args.line.now.verb (seated c.args.self.now.client c.args.progress.now (g.C.CrqEnd.state c.args.crq.now.end).registered) (seated c.take_on.new.self.client c.take_on.new.progress (g.C.CrqEnd.state c.take_on.new.crq.end).registered)
     c.take_on.result (ap is_reset c.in-Take.is)
 
 pub returns-in-Data-clause-out : goal.returns-in-Data-clause-out
 returns-in-Data-clause-out g c = λ alone.
-    other_out c.args.line.now.verb (seated c.args.self.now.client c.args.progress.now (g.C.CrqEnd.state c.args.crq.now.end).registered)
-    (seated c.data.new.self.client c.args.progress.now (g.C.CrqEnd.state c.args.crq.now.end).registered)
+    other_out c.args.line.now.verb (seated c.args.self.now.client c.args.progress.now (g.C.CrqEnd.state c.args.crq.now.end).registered) (seated c.data.new.self.client c.args.progress.now (g.C.CrqEnd.state c.args.crq.now.end).registered)
     c.data.result (ap is_reset c.in-Data.is)
 
 pub returns-in-Fill-clause-out : goal.returns-in-Fill-clause-out
 returns-in-Fill-clause-out g c = λ alone.
-    other_out c.args.line.now.verb (seated c.args.self.now.client c.args.progress.now (g.C.CrqEnd.state c.args.crq.now.end).registered)
-    (seated c.args.self.now.client c.args.progress.now (g.C.CrqEnd.state c.args.crq.now.end).registered)
+    other_out c.args.line.now.verb (seated c.args.self.now.client c.args.progress.now (g.C.CrqEnd.state c.args.crq.now.end).registered) (seated c.args.self.now.client c.args.progress.now (g.C.CrqEnd.state c.args.crq.now.end).registered)
     c.fill.result (ap is_reset c.in-Fill.is)
 
 pub returns-in-Poke-clause-out : goal.returns-in-Poke-clause-out
 returns-in-Poke-clause-out g c = λ alone.
-    other_out c.args.line.now.verb (seated c.args.self.now.client c.args.progress.now (g.C.CrqEnd.state c.args.crq.now.end).registered)
-    (seated c.args.self.now.client c.args.progress.now (g.C.CrqEnd.state c.args.crq.now.end).registered)
+    other_out c.args.line.now.verb (seated c.args.self.now.client c.args.progress.now (g.C.CrqEnd.state c.args.crq.now.end).registered) (seated c.args.self.now.client c.args.progress.now (g.C.CrqEnd.state c.args.crq.now.end).registered)
     c.poke.result (ap is_reset c.in-Poke.is)
 
 pub returns-in-Peek-clause-out : goal.returns-in-Peek-clause-out
 returns-in-Peek-clause-out g c = λ alone.
-    other_out c.args.line.now.verb (seated c.args.self.now.client c.args.progress.now (g.C.CrqEnd.state c.args.crq.now.end).registered)
-    (seated c.args.self.now.client c.args.progress.now (g.C.CrqEnd.state c.args.crq.now.end).registered)
+    other_out c.args.line.now.verb (seated c.args.self.now.client c.args.progress.now (g.C.CrqEnd.state c.args.crq.now.end).registered) (seated c.args.self.now.client c.args.progress.now (g.C.CrqEnd.state c.args.crq.now.end).registered)
     c.peek.result (ap is_reset c.in-Peek.is)
 
 pub returns-in-Tce-clause-out : goal.returns-in-Tce-clause-out
 returns-in-Tce-clause-out g c = λ alone.
-    other_out c.args.line.now.verb (seated c.args.self.now.client c.args.progress.now (g.C.CrqEnd.state c.args.crq.now.end).registered)
-    (seated c.args.self.now.client c.args.progress.now (g.C.CrqEnd.state c.args.crq.now.end).registered)
+    other_out c.args.line.now.verb (seated c.args.self.now.client c.args.progress.now (g.C.CrqEnd.state c.args.crq.now.end).registered) (seated c.args.self.now.client c.args.progress.now (g.C.CrqEnd.state c.args.crq.now.end).registered)
     c.put_tce.result (ap is_reset c.in-Tce.is)
 
 pub returns-in-Login-clause-shows : goal.returns-in-Login-clause-shows
@@ -379,12 +355,10 @@ returns-in-Task-clause-takes g c =
     (taken_verb c.args.line.now.verb _ 0 0 c.args.self.now c.task.new.self c.task.result c.in-Task.is c.task.ensures.takes)
 
 pub returns-in-Reset-clause-takes : goal.returns-in-Reset-clause-takes
-returns-in-Reset-clause-takes g c =
-    taken_verb c.args.line.now.verb _ (taken_in c.args.progress.now) (taken_in c.reset.new.progress) c.args.self.now c.reset.new.self c.reset.result c.in-Reset.is c.reset.ensures.takes
+returns-in-Reset-clause-takes g c = taken_verb c.args.line.now.verb _ (taken_in c.args.progress.now) (taken_in c.reset.new.progress) c.args.self.now c.reset.new.self c.reset.result c.in-Reset.is c.reset.ensures.takes
 
 pub returns-in-Take-clause-takes : goal.returns-in-Take-clause-takes
-returns-in-Take-clause-takes g c =
-    taken_verb c.args.line.now.verb _ (taken_in c.args.progress.now) (taken_in c.take_on.new.progress) c.args.self.now c.take_on.new.self c.take_on.result c.in-Take.is c.take_on.ensures.takes
+returns-in-Take-clause-takes g c = taken_verb c.args.line.now.verb _ (taken_in c.args.progress.now) (taken_in c.take_on.new.progress) c.args.self.now c.take_on.new.self c.take_on.result c.in-Take.is c.take_on.ensures.takes
 
 pub returns-in-Data-clause-takes : goal.returns-in-Data-clause-takes
 returns-in-Data-clause-takes g c =
@@ -392,33 +366,28 @@ returns-in-Data-clause-takes g c =
     (taken_verb c.args.line.now.verb _ 0 0 c.args.self.now c.data.new.self c.data.result c.in-Data.is c.data.ensures.takes)
 
 pub returns-in-Data-clause-gives : goal.returns-in-Data-clause-gives
-returns-in-Data-clause-gives g c =
-    data_step c.args.self.now c.data.new.self (g.C.CrqEnd.state c.args.crq.now.end) c.data.result c.data.ensures.answers c.data.ensures.client
+returns-in-Data-clause-gives g c = data_step c.args.self.now c.data.new.self (g.C.CrqEnd.state c.args.crq.now.end) c.data.result c.data.ensures.answers c.data.ensures.client
 
 pub returns-in-Fill-clause-takes : goal.returns-in-Fill-clause-takes
-returns-in-Fill-clause-takes g c =
-    own_step c.args.line.now.verb (taken_in c.args.progress.now) c.args.self.now c.fill.result (ap is_take c.in-Fill.is) (ap is_data c.in-Fill.is) c.fill.ensures.plain
+returns-in-Fill-clause-takes g c = own_step c.args.line.now.verb (taken_in c.args.progress.now) c.args.self.now c.fill.result (ap is_take c.in-Fill.is) (ap is_data c.in-Fill.is) c.fill.ensures.plain
 
 pub returns-in-Fill-clause-gives : goal.returns-in-Fill-clause-gives
 returns-in-Fill-clause-gives g c = gives_ok c.args.self.now c.args.self.now (g.C.CrqEnd.state c.args.crq.now.end) (g.C.CrqEnd.state c.args.crq.now.end) c.fill.result (gives_same c.args.self.now (g.C.CrqEnd.state c.args.crq.now.end))
 
 pub returns-in-Poke-clause-takes : goal.returns-in-Poke-clause-takes
-returns-in-Poke-clause-takes g c =
-    own_step c.args.line.now.verb (taken_in c.args.progress.now) c.args.self.now c.poke.result (ap is_take c.in-Poke.is) (ap is_data c.in-Poke.is) c.poke.ensures.plain
+returns-in-Poke-clause-takes g c = own_step c.args.line.now.verb (taken_in c.args.progress.now) c.args.self.now c.poke.result (ap is_take c.in-Poke.is) (ap is_data c.in-Poke.is) c.poke.ensures.plain
 
 pub returns-in-Poke-clause-gives : goal.returns-in-Poke-clause-gives
 returns-in-Poke-clause-gives g c = gives_ok c.args.self.now c.args.self.now (g.C.CrqEnd.state c.args.crq.now.end) (g.C.CrqEnd.state c.args.crq.now.end) c.poke.result (gives_same c.args.self.now (g.C.CrqEnd.state c.args.crq.now.end))
 
 pub returns-in-Peek-clause-takes : goal.returns-in-Peek-clause-takes
-returns-in-Peek-clause-takes g c =
-    own_step c.args.line.now.verb (taken_in c.args.progress.now) c.args.self.now c.peek.result (ap is_take c.in-Peek.is) (ap is_data c.in-Peek.is) c.peek.ensures.plain
+returns-in-Peek-clause-takes g c = own_step c.args.line.now.verb (taken_in c.args.progress.now) c.args.self.now c.peek.result (ap is_take c.in-Peek.is) (ap is_data c.in-Peek.is) c.peek.ensures.plain
 
 pub returns-in-Peek-clause-gives : goal.returns-in-Peek-clause-gives
 returns-in-Peek-clause-gives g c = gives_ok c.args.self.now c.args.self.now (g.C.CrqEnd.state c.args.crq.now.end) (g.C.CrqEnd.state c.args.crq.now.end) c.peek.result (gives_same c.args.self.now (g.C.CrqEnd.state c.args.crq.now.end))
 
 pub returns-in-Tce-clause-takes : goal.returns-in-Tce-clause-takes
-returns-in-Tce-clause-takes g c =
-    own_step c.args.line.now.verb (taken_in c.args.progress.now) c.args.self.now c.put_tce.result (ap is_take c.in-Tce.is) (ap is_data c.in-Tce.is) c.put_tce.ensures.plain
+returns-in-Tce-clause-takes g c = own_step c.args.line.now.verb (taken_in c.args.progress.now) c.args.self.now c.put_tce.result (ap is_take c.in-Tce.is) (ap is_data c.in-Tce.is) c.put_tce.ensures.plain
 
 pub returns-in-Tce-clause-gives : goal.returns-in-Tce-clause-gives
 returns-in-Tce-clause-gives g c = gives_ok c.args.self.now c.args.self.now (g.C.CrqEnd.state c.args.crq.now.end) (g.C.CrqEnd.state c.args.crq.now.end) c.put_tce.result (gives_same c.args.self.now (g.C.CrqEnd.state c.args.crq.now.end))
@@ -477,8 +446,7 @@ returns-in-Peek-clause-puts g c = same_puts c.args.line.now.verb c.peek.result _
 
 pub returns-in-Tce-clause-puts : goal.returns-in-Tce-clause-puts
 returns-in-Tce-clause-puts g c =
-    tce_puts c.in-Tce.entry c.in-Tce.page c.in-Tce.readable c.in-Tce.writable (g.O.WindowPort.state c.args.own.now) (g.O.WindowPort.state c.put_tce.new.own)
-    c.args.line.now.verb c.put_tce.result c.in-Tce.is c.put_tce.ensures.answer
+    tce_puts c.in-Tce.entry c.in-Tce.page c.in-Tce.readable c.in-Tce.writable (g.O.WindowPort.state c.args.own.now) (g.O.WindowPort.state c.put_tce.new.own) c.args.line.now.verb c.put_tce.result c.in-Tce.is c.put_tce.ensures.answer
 
 pub returns-in-Login-clause-reads : goal.returns-in-Login-clause-reads
 returns-in-Login-clause-reads g c = λ alone.
@@ -598,8 +566,7 @@ returns-in-Tce-clause-works g c =
     (none_under g.O.WindowPort.is_shared c.args.line.now.number (g.O.WindowPort.state c.args.own.now) (g.O.WindowPort.state c.put_tce.new.own) c.put_tce.ensures.marks) refl refl refl
 
 pub returns-in-Take-clause-works : goal.returns-in-Take-clause-works
-returns-in-Take-clause-works g c =
-    works_as _ _ _ _ _ _ _ _ _ _ _ _ (sym (ap is_reset c.in-Take.is)) refl (works_marked c.args.line.now.number _ _ _ _ _ _ _ _ _ c.take_on.ensures.works)
+returns-in-Take-clause-works g c = works_as _ _ _ _ _ _ _ _ _ _ _ _ (sym (ap is_reset c.in-Take.is)) refl (works_marked c.args.line.now.number _ _ _ _ _ _ _ _ _ c.take_on.ensures.works)
 
 pub returns-in-Data-clause-works : goal.returns-in-Data-clause-works
 returns-in-Data-clause-works g c =
@@ -608,20 +575,16 @@ returns-in-Data-clause-works g c =
     (ap (λ rows. rows.items) c.data.ensures.answers) c.data.ensures.client
 
 pub returns-in-Login-clause-frees : goal.returns-in-Login-clause-frees
-returns-in-Login-clause-frees g c =
-    plain_makes (is_reset c.args.line.now.verb) c.args.progress.now _ (g.C.CrqEnd.state c.args.crq.now.end) (g.C.CrqEnd.state c.login.new.crq.end) (ap is_reset c.in-Login.is) (c.login.ensures.works.calm refl)
+returns-in-Login-clause-frees g c = plain_makes (is_reset c.args.line.now.verb) c.args.progress.now _ (g.C.CrqEnd.state c.args.crq.now.end) (g.C.CrqEnd.state c.login.new.crq.end) (ap is_reset c.in-Login.is) (c.login.ensures.works.calm refl)
 
 pub returns-in-Logout-clause-frees : goal.returns-in-Logout-clause-frees
-returns-in-Logout-clause-frees g c =
-    plain_makes (is_reset c.args.line.now.verb) c.args.progress.now _ (g.C.CrqEnd.state c.args.crq.now.end) (g.C.CrqEnd.state c.logout.new.crq.end) (ap is_reset c.in-Logout.is) (c.logout.ensures.works.calm refl)
+returns-in-Logout-clause-frees g c = plain_makes (is_reset c.args.line.now.verb) c.args.progress.now _ (g.C.CrqEnd.state c.args.crq.now.end) (g.C.CrqEnd.state c.logout.new.crq.end) (ap is_reset c.in-Logout.is) (c.logout.ensures.works.calm refl)
 
 pub returns-in-Task-clause-frees : goal.returns-in-Task-clause-frees
-returns-in-Task-clause-frees g c =
-    plain_makes (is_reset c.args.line.now.verb) c.args.progress.now _ (g.C.CrqEnd.state c.args.crq.now.end) (g.C.CrqEnd.state c.task.new.crq.end) (ap is_reset c.in-Task.is) (c.task.ensures.works.calm refl)
+returns-in-Task-clause-frees g c = plain_makes (is_reset c.args.line.now.verb) c.args.progress.now _ (g.C.CrqEnd.state c.args.crq.now.end) (g.C.CrqEnd.state c.task.new.crq.end) (ap is_reset c.in-Task.is) (c.task.ensures.works.calm refl)
 
 pub returns-in-Take-clause-frees : goal.returns-in-Take-clause-frees
-returns-in-Take-clause-frees g c =
-    plain_makes (is_reset c.args.line.now.verb) c.args.progress.now _ (g.C.CrqEnd.state c.args.crq.now.end) (g.C.CrqEnd.state c.take_on.new.crq.end) (ap is_reset c.in-Take.is) (c.take_on.ensures.works.calm refl)
+returns-in-Take-clause-frees g c = plain_makes (is_reset c.args.line.now.verb) c.args.progress.now _ (g.C.CrqEnd.state c.args.crq.now.end) (g.C.CrqEnd.state c.take_on.new.crq.end) (ap is_reset c.in-Take.is) (c.take_on.ensures.works.calm refl)
 
 pub returns-in-Data-clause-frees : goal.returns-in-Data-clause-frees
 returns-in-Data-clause-frees g c =
@@ -644,8 +607,7 @@ returns-in-Tce-clause-frees g c =
     plain_makes (is_reset c.args.line.now.verb) c.args.progress.now _ (g.C.CrqEnd.state c.args.crq.now.end) (g.C.CrqEnd.state c.args.crq.now.end) (ap is_reset c.in-Tce.is) (calm_same (g.C.CrqEnd.state c.args.crq.now.end) (g.C.CrqEnd.state c.args.crq.now.end) refl refl)
 
 pub returns-in-Reset-clause-frees : goal.returns-in-Reset-clause-frees
-returns-in-Reset-clause-frees g c =
-    subst (λ b. StepMakes b c.args.progress.now c.reset.new.progress (g.C.CrqEnd.state c.args.crq.now.end) (g.C.CrqEnd.state c.reset.new.crq.end)) (sym (ap is_reset c.in-Reset.is)) c.reset.ensures.frees
+returns-in-Reset-clause-frees g c = subst (λ b. StepMakes b c.args.progress.now c.reset.new.progress (g.C.CrqEnd.state c.args.crq.now.end) (g.C.CrqEnd.state c.reset.new.crq.end)) (sym (ap is_reset c.in-Reset.is)) c.reset.ensures.frees
 
 pub returns-in-Login-clause-full : goal.returns-in-Login-clause-full
 returns-in-Login-clause-full g c = c.login.ensures.full
@@ -686,54 +648,36 @@ returns-in-Tce-clause-full g c =
     (λ number held e. subst (λ (r : Result Step NoMemory). IfOk r (AnswersPut (g.O.WindowPort.state c.args.own.now) (g.O.WindowPort.state c.put_tce.new.own) c.in-Tce.entry (tce_of c.in-Tce.page c.in-Tce.readable c.in-Tce.writable))) e c.put_tce.ensures.answer)
 
 pub returns-in-Login-clause-shut : goal.returns-in-Login-clause-shut
-returns-in-Login-clause-shut g c =
-    shut_none (MeetsShut g.C.CrqEnd.is_shared c.args.self.now.client (g.C.CrqEnd.state c.args.crq.now.end) (g.C.CrqEnd.state c.login.new.crq.end))
-    c.args.line.now.verb c.login.result (ap requests c.in-Login.is)
+returns-in-Login-clause-shut g c = shut_none (MeetsShut g.C.CrqEnd.is_shared c.args.self.now.client (g.C.CrqEnd.state c.args.crq.now.end) (g.C.CrqEnd.state c.login.new.crq.end)) c.args.line.now.verb c.login.result (ap requests c.in-Login.is)
 
 pub returns-in-Reset-clause-shut : goal.returns-in-Reset-clause-shut
-returns-in-Reset-clause-shut g c =
-    shut_none (MeetsShut g.C.CrqEnd.is_shared c.args.self.now.client (g.C.CrqEnd.state c.args.crq.now.end) (g.C.CrqEnd.state c.reset.new.crq.end))
-    c.args.line.now.verb c.reset.result (ap requests c.in-Reset.is)
+returns-in-Reset-clause-shut g c = shut_none (MeetsShut g.C.CrqEnd.is_shared c.args.self.now.client (g.C.CrqEnd.state c.args.crq.now.end) (g.C.CrqEnd.state c.reset.new.crq.end)) c.args.line.now.verb c.reset.result (ap requests c.in-Reset.is)
 
 pub returns-in-Take-clause-shut : goal.returns-in-Take-clause-shut
-returns-in-Take-clause-shut g c =
-    shut_none (MeetsShut g.C.CrqEnd.is_shared c.args.self.now.client (g.C.CrqEnd.state c.args.crq.now.end) (g.C.CrqEnd.state c.take_on.new.crq.end))
-    c.args.line.now.verb c.take_on.result (ap requests c.in-Take.is)
+returns-in-Take-clause-shut g c = shut_none (MeetsShut g.C.CrqEnd.is_shared c.args.self.now.client (g.C.CrqEnd.state c.args.crq.now.end) (g.C.CrqEnd.state c.take_on.new.crq.end)) c.args.line.now.verb c.take_on.result (ap requests c.in-Take.is)
 
 pub returns-in-Data-clause-shut : goal.returns-in-Data-clause-shut
-returns-in-Data-clause-shut g c =
-    shut_none (MeetsShut g.C.CrqEnd.is_shared c.args.self.now.client (g.C.CrqEnd.state c.args.crq.now.end) (g.C.CrqEnd.state c.args.crq.now.end))
-    c.args.line.now.verb c.data.result (ap requests c.in-Data.is)
+returns-in-Data-clause-shut g c = shut_none (MeetsShut g.C.CrqEnd.is_shared c.args.self.now.client (g.C.CrqEnd.state c.args.crq.now.end) (g.C.CrqEnd.state c.args.crq.now.end)) c.args.line.now.verb c.data.result (ap requests c.in-Data.is)
 
 pub returns-in-Fill-clause-shut : goal.returns-in-Fill-clause-shut
-returns-in-Fill-clause-shut g c =
-    shut_none (MeetsShut g.C.CrqEnd.is_shared c.args.self.now.client (g.C.CrqEnd.state c.args.crq.now.end) (g.C.CrqEnd.state c.args.crq.now.end))
-    c.args.line.now.verb c.fill.result (ap requests c.in-Fill.is)
+returns-in-Fill-clause-shut g c = shut_none (MeetsShut g.C.CrqEnd.is_shared c.args.self.now.client (g.C.CrqEnd.state c.args.crq.now.end) (g.C.CrqEnd.state c.args.crq.now.end)) c.args.line.now.verb c.fill.result (ap requests c.in-Fill.is)
 
 pub returns-in-Poke-clause-shut : goal.returns-in-Poke-clause-shut
-returns-in-Poke-clause-shut g c =
-    shut_none (MeetsShut g.C.CrqEnd.is_shared c.args.self.now.client (g.C.CrqEnd.state c.args.crq.now.end) (g.C.CrqEnd.state c.args.crq.now.end))
-    c.args.line.now.verb c.poke.result (ap requests c.in-Poke.is)
+returns-in-Poke-clause-shut g c = shut_none (MeetsShut g.C.CrqEnd.is_shared c.args.self.now.client (g.C.CrqEnd.state c.args.crq.now.end) (g.C.CrqEnd.state c.args.crq.now.end)) c.args.line.now.verb c.poke.result (ap requests c.in-Poke.is)
 
 pub returns-in-Peek-clause-shut : goal.returns-in-Peek-clause-shut
-returns-in-Peek-clause-shut g c =
-    shut_none (MeetsShut g.C.CrqEnd.is_shared c.args.self.now.client (g.C.CrqEnd.state c.args.crq.now.end) (g.C.CrqEnd.state c.args.crq.now.end))
-    c.args.line.now.verb c.peek.result (ap requests c.in-Peek.is)
+returns-in-Peek-clause-shut g c = shut_none (MeetsShut g.C.CrqEnd.is_shared c.args.self.now.client (g.C.CrqEnd.state c.args.crq.now.end) (g.C.CrqEnd.state c.args.crq.now.end)) c.args.line.now.verb c.peek.result (ap requests c.in-Peek.is)
 
 pub returns-in-Tce-clause-shut : goal.returns-in-Tce-clause-shut
-returns-in-Tce-clause-shut g c =
-    shut_none (MeetsShut g.C.CrqEnd.is_shared c.args.self.now.client (g.C.CrqEnd.state c.args.crq.now.end) (g.C.CrqEnd.state c.args.crq.now.end))
-    c.args.line.now.verb c.put_tce.result (ap requests c.in-Tce.is)
+returns-in-Tce-clause-shut g c = shut_none (MeetsShut g.C.CrqEnd.is_shared c.args.self.now.client (g.C.CrqEnd.state c.args.crq.now.end) (g.C.CrqEnd.state c.args.crq.now.end)) c.args.line.now.verb c.put_tce.result (ap requests c.in-Tce.is)
 
 pub returns-in-Logout-clause-shut : goal.returns-in-Logout-clause-shut
 returns-in-Logout-clause-shut g c =
-    subst (λ (v : Verb). StepShut (MeetsShut g.C.CrqEnd.is_shared c.args.self.now.client (g.C.CrqEnd.state c.args.crq.now.end) (g.C.CrqEnd.state c.logout.new.crq.end)) v c.logout.result)
-    (sym c.in-Logout.is) c.logout.ensures.shut
+    subst (λ (v : Verb). StepShut (MeetsShut g.C.CrqEnd.is_shared c.args.self.now.client (g.C.CrqEnd.state c.args.crq.now.end) (g.C.CrqEnd.state c.logout.new.crq.end)) v c.logout.result) (sym c.in-Logout.is) c.logout.ensures.shut
 
 pub returns-in-Task-clause-shut : goal.returns-in-Task-clause-shut
 returns-in-Task-clause-shut g c =
-    subst (λ (v : Verb). StepShut (MeetsShut g.C.CrqEnd.is_shared c.args.self.now.client (g.C.CrqEnd.state c.args.crq.now.end) (g.C.CrqEnd.state c.task.new.crq.end)) v c.task.result)
-    (sym c.in-Task.is) c.task.ensures.shut
+    subst (λ (v : Verb). StepShut (MeetsShut g.C.CrqEnd.is_shared c.args.self.now.client (g.C.CrqEnd.state c.args.crq.now.end) (g.C.CrqEnd.state c.task.new.crq.end)) v c.task.result) (sym c.in-Task.is) c.task.ensures.shut
 
 pub returns-in-Login-clause-region : goal.returns-in-Login-clause-region
 returns-in-Login-clause-region g c = not_in_region g.O.WindowPort.is_shared c.args.line.now (g.O.WindowPort.state c.args.own.now) (g.O.WindowPort.state c.login.new.own) c.login.result (ap is_in_region c.in-Login.is)
@@ -785,8 +729,7 @@ returns-in-Peek-clause-region g c =
     (just_by g.O.WindowPort.is_shared (g.O.WindowPort.state c.args.own.now) (g.O.WindowPort.state c.peek.new.own) c.args.line.now.number c.args.line.now.number
     None (written_by c.args.line.now.verb) c.peek.result refl (sym (ap written_by c.in-Peek.is))
     (just_read g.O.WindowPort.is_shared (g.O.WindowPort.state c.args.own.now) (g.O.WindowPort.state c.peek.new.own) c.args.line.now.number c.peek.result c.peek.ensures.marks))
-    (peek_told (g.O.WindowPort.state c.args.own.now) (g.O.WindowPort.state c.peek.new.own) c.in-Peek.at c.in-Peek.len c.args.line.now.number
-    c.args.line.now.verb c.peek.result c.in-Peek.is c.peek.ensures.rest.place c.peek.ensures.answer)
+    (peek_told (g.O.WindowPort.state c.args.own.now) (g.O.WindowPort.state c.peek.new.own) c.in-Peek.at c.in-Peek.len c.args.line.now.number c.args.line.now.verb c.peek.result c.in-Peek.is c.peek.ensures.rest.place c.peek.ensures.answer)
 
 pub returns-in-Tce-clause-region : goal.returns-in-Tce-clause-region
 returns-in-Tce-clause-region g c =
@@ -796,3 +739,46 @@ returns-in-Tce-clause-region g c =
     (just_read g.O.WindowPort.is_shared (g.O.WindowPort.state c.args.own.now) (g.O.WindowPort.state c.put_tce.new.own) c.args.line.now.number c.put_tce.result c.put_tce.ensures.marks))
     (tce_told (g.O.WindowPort.state c.args.own.now) (g.O.WindowPort.state c.put_tce.new.own) c.in-Tce.entry c.in-Tce.page c.in-Tce.readable c.in-Tce.writable
     c.args.line.now.number c.args.line.now.verb c.put_tce.result c.in-Tce.is c.put_tce.ensures.answer)
+
+pub returns-in-Some-clause-plainly : goal.returns-in-Some-clause-plainly
+returns-in-Some-clause-plainly g c = λ crq_alone own_alone. c.command.ensures.plainly crq_alone own_alone c.args.line.now.verb c.args.progress.now c.in-Some.ensures.command
+
+pub returns-in-Login-clause-plainly : goal.returns-in-Login-clause-plainly
+returns-in-Login-clause-plainly g c = λ crq_alone own_alone. steps_as c.args.line.now.verb _ c.args.progress.now c.args.progress.now (own_by c.args.self.now.client (g.C.CrqEnd.state c.args.crq.now.end) (g.O.WindowPort.state c.args.own.now)) (own_by c.login.new.self.client (g.C.CrqEnd.state c.login.new.crq.end) (g.O.WindowPort.state c.login.new.own)) c.login.result c.in-Login.is
+    (login_steps c.args.progress.now c.args.progress.now (own_by c.args.self.now.client (g.C.CrqEnd.state c.args.crq.now.end) (g.O.WindowPort.state c.args.own.now)) (own_by c.login.new.self.client (g.C.CrqEnd.state c.login.new.crq.end) (g.O.WindowPort.state c.login.new.own)) c.login.result (c.login.ensures.plainly crq_alone own_alone))
+
+pub returns-in-Reset-clause-plainly : goal.returns-in-Reset-clause-plainly
+returns-in-Reset-clause-plainly g c = λ crq_alone own_alone. steps_as c.args.line.now.verb _ c.args.progress.now c.reset.new.progress (own_by c.args.self.now.client (g.C.CrqEnd.state c.args.crq.now.end) (g.O.WindowPort.state c.args.own.now)) (own_by c.reset.new.self.client (g.C.CrqEnd.state c.reset.new.crq.end) (g.O.WindowPort.state c.reset.new.own)) c.reset.result c.in-Reset.is
+    (c.reset.ensures.plainly crq_alone own_alone)
+
+pub returns-in-Logout-clause-plainly : goal.returns-in-Logout-clause-plainly
+returns-in-Logout-clause-plainly g c = λ crq_alone own_alone. steps_as c.args.line.now.verb _ c.args.progress.now c.args.progress.now (own_by c.args.self.now.client (g.C.CrqEnd.state c.args.crq.now.end) (g.O.WindowPort.state c.args.own.now)) (own_by c.logout.new.self.client (g.C.CrqEnd.state c.logout.new.crq.end) (g.O.WindowPort.state c.logout.new.own)) c.logout.result c.in-Logout.is
+    (c.logout.ensures.plainly crq_alone own_alone c.args.progress.now)
+
+pub returns-in-Task-clause-plainly : goal.returns-in-Task-clause-plainly
+returns-in-Task-clause-plainly g c = λ crq_alone own_alone. steps_as c.args.line.now.verb _ c.args.progress.now c.args.progress.now (own_by c.args.self.now.client (g.C.CrqEnd.state c.args.crq.now.end) (g.O.WindowPort.state c.args.own.now)) (own_by c.task.new.self.client (g.C.CrqEnd.state c.task.new.crq.end) (g.O.WindowPort.state c.task.new.own)) c.task.result c.in-Task.is
+    (c.task.ensures.plainly crq_alone own_alone c.args.progress.now)
+
+pub returns-in-Take-clause-plainly : goal.returns-in-Take-clause-plainly
+returns-in-Take-clause-plainly g c = λ crq_alone own_alone. steps_as c.args.line.now.verb _ c.args.progress.now c.take_on.new.progress (own_by c.args.self.now.client (g.C.CrqEnd.state c.args.crq.now.end) (g.O.WindowPort.state c.args.own.now)) (own_by c.take_on.new.self.client (g.C.CrqEnd.state c.take_on.new.crq.end) (g.O.WindowPort.state c.take_on.new.own)) c.take_on.result c.in-Take.is
+    (c.take_on.ensures.plainly crq_alone own_alone)
+
+pub returns-in-Data-clause-plainly : goal.returns-in-Data-clause-plainly
+returns-in-Data-clause-plainly g c = λ crq_alone own_alone. steps_as c.args.line.now.verb _ c.args.progress.now c.args.progress.now (own_by c.args.self.now.client (g.C.CrqEnd.state c.args.crq.now.end) (g.O.WindowPort.state c.args.own.now)) (own_by c.data.new.self.client (g.C.CrqEnd.state c.args.crq.now.end) (g.O.WindowPort.state c.data.new.own)) c.data.result c.in-Data.is
+    (c.data.ensures.plainly own_alone (g.C.CrqEnd.state c.args.crq.now.end) c.args.progress.now)
+
+pub returns-in-Fill-clause-plainly : goal.returns-in-Fill-clause-plainly
+returns-in-Fill-clause-plainly g c = λ crq_alone own_alone. steps_as c.args.line.now.verb _ c.args.progress.now c.args.progress.now (own_by c.args.self.now.client (g.C.CrqEnd.state c.args.crq.now.end) (g.O.WindowPort.state c.args.own.now)) (own_by c.args.self.now.client (g.C.CrqEnd.state c.args.crq.now.end) (g.O.WindowPort.state c.fill.new.own)) c.fill.result c.in-Fill.is
+    (fill_plainly g.O.WindowPort.is_shared c.in-Fill.at c.in-Fill.len c.in-Fill.seed c.from-mark.result c.args.progress.now (own_by c.args.self.now.client (g.C.CrqEnd.state c.args.crq.now.end) (g.O.WindowPort.state c.args.own.now)) (own_by c.args.self.now.client (g.C.CrqEnd.state c.args.crq.now.end) (g.O.WindowPort.state c.fill.new.own)) c.fill.result own_alone refl refl c.fill.ensures.rest c.fill.ensures.lays c.fill.ensures.answer)
+
+pub returns-in-Poke-clause-plainly : goal.returns-in-Poke-clause-plainly
+returns-in-Poke-clause-plainly g c = λ crq_alone own_alone. steps_as c.args.line.now.verb (verbs.Poke c.in-Poke.at c.as_slice.result.now) c.args.progress.now c.args.progress.now (own_by c.args.self.now.client (g.C.CrqEnd.state c.args.crq.now.end) (g.O.WindowPort.state c.args.own.now)) (own_by c.args.self.now.client (g.C.CrqEnd.state c.args.crq.now.end) (g.O.WindowPort.state c.poke.new.own)) c.poke.result (c.in-Poke.is ∙ ap (λ (bytes : List ℕ). verbs.Poke c.in-Poke.at bytes) (sym c.as_slice.ensures))
+    (poke_plainly g.O.WindowPort.is_shared c.in-Poke.at c.from-mark.result c.as_slice.result.now c.args.progress.now (own_by c.args.self.now.client (g.C.CrqEnd.state c.args.crq.now.end) (g.O.WindowPort.state c.args.own.now)) (own_by c.args.self.now.client (g.C.CrqEnd.state c.args.crq.now.end) (g.O.WindowPort.state c.poke.new.own)) c.poke.result own_alone refl refl c.poke.ensures.rest c.poke.ensures.lays c.poke.ensures.answer)
+
+pub returns-in-Peek-clause-plainly : goal.returns-in-Peek-clause-plainly
+returns-in-Peek-clause-plainly g c = λ crq_alone own_alone. steps_as c.args.line.now.verb _ c.args.progress.now c.args.progress.now (own_by c.args.self.now.client (g.C.CrqEnd.state c.args.crq.now.end) (g.O.WindowPort.state c.args.own.now)) (own_by c.args.self.now.client (g.C.CrqEnd.state c.args.crq.now.end) (g.O.WindowPort.state c.peek.new.own)) c.peek.result c.in-Peek.is
+    (peek_plainly g.O.WindowPort.is_shared c.in-Peek.at c.in-Peek.len c.args.progress.now (own_by c.args.self.now.client (g.C.CrqEnd.state c.args.crq.now.end) (g.O.WindowPort.state c.args.own.now)) (own_by c.args.self.now.client (g.C.CrqEnd.state c.args.crq.now.end) (g.O.WindowPort.state c.peek.new.own)) c.peek.result own_alone refl refl c.peek.ensures.rest)
+
+pub returns-in-Tce-clause-plainly : goal.returns-in-Tce-clause-plainly
+returns-in-Tce-clause-plainly g c = λ crq_alone own_alone. steps_as c.args.line.now.verb _ c.args.progress.now c.args.progress.now (own_by c.args.self.now.client (g.C.CrqEnd.state c.args.crq.now.end) (g.O.WindowPort.state c.args.own.now)) (own_by c.args.self.now.client (g.C.CrqEnd.state c.args.crq.now.end) (g.O.WindowPort.state c.put_tce.new.own)) c.put_tce.result c.in-Tce.is
+    (tce_plainly c.in-Tce.entry c.in-Tce.page c.in-Tce.readable c.in-Tce.writable c.args.progress.now c.args.progress.now (own_by c.args.self.now.client (g.C.CrqEnd.state c.args.crq.now.end) (g.O.WindowPort.state c.args.own.now)) (own_by c.args.self.now.client (g.C.CrqEnd.state c.args.crq.now.end) (g.O.WindowPort.state c.put_tce.new.own)) c.put_tce.result)

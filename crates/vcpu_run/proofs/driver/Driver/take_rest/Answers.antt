@@ -1,11 +1,13 @@
 use Rattle.vcpu_run.proofs.Resting.{not_quiet}
 use Rattle.vcpu_run.specs.Links.{EndRests}
 use Rattle.crq_session.specs.EndState.{EndState}
-use Rattle.std.proofs.Common.{◌≤◌, ◌∙◌, false, refl, sym, subst}
+use Rattle.std.proofs.Common.{rules, ◌≡◌, ◌≤◌, ◌∙◌, Err, false, refl, sym, subst}
 use Rattle.tce_window.specs.PortState.{PortPlace}
 use Rattle.vscsi_client.specs.declared.TheConstants.{MIN_PAGES}
 use Rattle.vcpu_run.proofs.Working.{works_on, works_same}
 use Rattle.vcpu_run.proofs.Giving.{gives_on, gives_same}
+use Rattle.vcpu_run.specs.PlainSteps.{own_by}
+use Rattle.vcpu_run.proofs.PlainRest.{rests_err, rests_more, rests_none}
 use Rattle.vcpu_run.proofs.driver.Driver.take_rest.Goals as goal
 
 pub returns-in_err-take_one-clause-works : goal.returns-in_err-take_one-clause-works
@@ -22,6 +24,9 @@ loop-taken-preserved g c = record {
   pages = subst (λ (place : PortPlace). MIN_PAGES ≤ place.size) (sym c.take_one.ensures.works.window.place) c.loop-taken.invariant.pages;
   gives = gives_on c.args.self.now c.loop-taken.self c.take_one.new.self (g.C.CrqEnd.state c.args.crq.now.end) (g.C.CrqEnd.state c.loop-taken.crq.end) (g.C.CrqEnd.state c.take_one.new.crq.end)
       c.loop-taken.invariant.gives c.in_ok-take_one.ensures.gives;
+  plainly = λ crq_alone own_alone. rests_more (own_by c.args.self.now.client (g.C.CrqEnd.state c.args.crq.now.end) (g.O.WindowPort.state c.args.own.now))
+      (own_by c.loop-taken.self.client (g.C.CrqEnd.state c.loop-taken.crq.end) (g.O.WindowPort.state c.loop-taken.own))
+      (own_by c.take_one.new.self.client (g.C.CrqEnd.state c.take_one.new.crq.end) (g.O.WindowPort.state c.take_one.new.own)) _ (c.loop-taken.invariant.plainly crq_alone own_alone) (c.in_ok-take_one.ensures.plainly crq_alone own_alone);
   fresh = λ is. absurd (not_quiet is);
 }
 
@@ -55,5 +60,28 @@ loop-taken-init g c = record {
   queue = refl;
   pages = c.requires;
   gives = gives_same c.args.self.now (g.C.CrqEnd.state c.args.crq.now.end);
+  plainly = λ crq_alone own_alone. rests_none (own_by c.args.self.now.client (g.C.CrqEnd.state c.args.crq.now.end) (g.O.WindowPort.state c.args.own.now));
   fresh = λ is. refl;
 }
+
+pub returns-in_err-take_one-clause-plainly : goal.returns-in_err-take_one-clause-plainly
+returns-in_err-take_one-clause-plainly g c =
+    let same : c.from_residual.result ≡ Err c.in_err-take_one.field-0.0 = search rules in
+    λ crq_alone own_alone. rests_err (own_by c.args.self.now.client (g.C.CrqEnd.state c.args.crq.now.end) (g.O.WindowPort.state c.args.own.now)) (own_by c.take_one.new.self.client (g.C.CrqEnd.state c.take_one.new.crq.end) (g.O.WindowPort.state c.take_one.new.own)) c.from_residual.result c.in_err-take_one.field-0.0 same
+
+pub returns-in-Nothing-clause-plainly : goal.returns-in-Nothing-clause-plainly
+returns-in-Nothing-clause-plainly g c = λ crq_alone own_alone.
+    (rests_more (own_by c.args.self.now.client (g.C.CrqEnd.state c.args.crq.now.end) (g.O.WindowPort.state c.args.own.now))
+    (own_by c.loop-taken.self.client (g.C.CrqEnd.state c.loop-taken.crq.end) (g.O.WindowPort.state c.loop-taken.own))
+    (own_by c.take_one.new.self.client (g.C.CrqEnd.state c.take_one.new.crq.end) (g.O.WindowPort.state c.take_one.new.own)) _ (c.loop-taken.invariant.plainly crq_alone own_alone)
+    (c.in_ok-take_one.ensures.plainly crq_alone own_alone)).leaves
+
+pub returns-in-InUse-clause-plainly : goal.returns-in-InUse-clause-plainly
+returns-in-InUse-clause-plainly g c = λ crq_alone own_alone.
+    (rests_more (own_by c.args.self.now.client (g.C.CrqEnd.state c.args.crq.now.end) (g.O.WindowPort.state c.args.own.now))
+    (own_by c.loop-taken.self.client (g.C.CrqEnd.state c.loop-taken.crq.end) (g.O.WindowPort.state c.loop-taken.own))
+    (own_by c.take_one.new.self.client (g.C.CrqEnd.state c.take_one.new.crq.end) (g.O.WindowPort.state c.take_one.new.own)) _ (c.loop-taken.invariant.plainly crq_alone own_alone)
+    (c.in_ok-take_one.ensures.plainly crq_alone own_alone)).leaves
+
+pub returns-clause-plainly : goal.returns-clause-plainly
+returns-clause-plainly g c = λ crq_alone own_alone. (c.loop-taken.invariant.plainly crq_alone own_alone).leaves

@@ -11,6 +11,8 @@ use Rattle.vcpu_run.proofs.Giving.{asks_gives, task_kept}
 use Rattle.vcpu_run.proofs.TakingCalls.{task_taken}
 use Rattle.vcpu_run.proofs.EventsHeard.{sent_none}
 use Rattle.vcpu_run.proofs.Giving.{asks_hear}
+use Rattle.vcpu_run.specs.PlainSteps.{own_by}
+use Rattle.vcpu_run.proofs.PlainRequests.{task_plainly}
 use Rattle.vcpu_run.proofs.driver.Driver.task.Goals as goal
 
 pub returns-clause-works : goal.returns-clause-works
@@ -81,3 +83,11 @@ returns-clause-shut g c =
     (ports g.C.CrqEnd.is_shared (g.C.CrqEnd.state c.args.crq.now.end) g.O.WindowPort.is_shared (g.O.WindowPort.state c.args.own.now))
     (ports g.C.CrqEnd.is_shared (g.C.CrqEnd.state c.task.new.crq.end) g.O.WindowPort.is_shared (g.O.WindowPort.state c.task.new.own))
     c.task.result c.sent.result c.sent.ensures.sent c.sent.ensures.why c.task.ensures.crq_rest.place c.task.ensures.refused c.task.ensures.why
+
+pub returns-clause-plainly : goal.returns-clause-plainly
+returns-clause-plainly g c =
+    task_plainly g.C.CrqEnd.is_shared g.O.WindowPort.is_shared c.args.line c.args.function c.args.tag
+    (own_by c.args.self.now.client (g.C.CrqEnd.state c.args.crq.now.end) (g.O.WindowPort.state c.args.own.now))
+    (own_by c.task.new.self (g.C.CrqEnd.state c.task.new.crq.end) (g.O.WindowPort.state c.task.new.own))
+    c.task.result c.sent.result c.sent.ensures.sent c.sent.ensures.why c.sent.ensures.memory c.task.ensures.refused c.task.ensures.same c.task.ensures.sent c.task.ensures.why
+    c.task.ensures.crq_rest c.task.ensures.own_rest

@@ -1,10 +1,10 @@
 use Rattle.vcpu_run.proofs.DataNoted.{none_noted}
 use Rattle.vcpu_run.proofs.Waiting.{linked_closed}
-use Rattle.std.proofs.Common.{◌≡◌, ◌≤◌, List, [], length, vec_len, sym, ◌∙◌, ap, subst, arith, rules}
+use Rattle.std.proofs.Common.{◌≡◌, ◌≤◌, List, [], length, true, vec_len, sym, ◌∙◌, ap, subst, arith, rules}
 use Rattle.rdma_copy.specs.declared.copy.CopyRecord.{CopyRecord}
 use Rattle.boot_text.specs.declared.plan.TheConstants.{MOST_PARTITIONS}
 use Rattle.lan_script.specs.declared.seat.PortSeat.{PortSeat}
-use Rattle.vcpu_run.specs.Machines.{ArePlanned, AreScripts, home_of}
+use Rattle.vcpu_run.specs.Machines.{ArePlanned, AreScripts, IsOfPlan, home_of}
 use Rattle.vcpu_run.specs.Making.{AreMade}
 use Rattle.vcpu_run.specs.Pairs.{ArePairs}
 use Rattle.vcpu_run.specs.Ports.{ports_of}
@@ -17,6 +17,11 @@ use Rattle.vcpu_run.proofs.RoundsTold.{told_made}
 use Rattle.vcpu_run.proofs.Held.{queues_fresh}
 use Rattle.vcpu_run.proofs.PortTurns.{ports_made}
 use Rattle.vcpu_run.proofs.HeardTurns.{heard_fresh}
+use Rattle.vio_num.specs.declared.history.Grant.{Grant}
+use Rattle.vio_num.specs.declared.history.Served.{Served}
+use Rattle.vcpu_run.specs.PlainPairs.{books_of}
+use Rattle.vcpu_run.specs.PlainRuns.{ArePlain}
+use Rattle.vcpu_run.proofs.PlainBooted.{UnitsStart, boots_plainly, scripts_start}
 use Rattle.vcpu_run.proofs.machine.Machine.boot.Goals as goal
 
 pub overflow_cast-home : goal.overflow_cast-home
@@ -127,3 +132,31 @@ returns-clause-heard g c =
     let server = c.in_ok-server in
     heard_fresh server.server.disk.count server.server.partition server.server.units.items server.server.records server.server.copies.items c.in-Ok.pairs.items
     server.ensures.history server.ensures.lines server.ensures.order server.ensures.idle server.ensures.unrefused server.ensures.unused c.in-Ok.ensures.fresh
+
+pub returns-clause-plainly : goal.returns-clause-plainly
+returns-clause-plainly g c =
+    let pairs = c.in-Ok.pairs in
+    let scripts = c.in-Ok-make_scripts.scripts in
+    let server = c.in_ok-server in
+    let grant = c.args.plan.now.grant in
+    let list = server.server.units.items in
+    let partitions = c.args.plan.now.partitions in
+    let made : AreMade partitions scripts.items = rw (← c.as_slice-partitions.ensures) c.in-Ok-make_scripts.ensures in
+    let of_plan : IsOfPlan partitions pairs.items scripts.items c.in-Ok-open_lan.lan.seats = record {
+      pairs_are = rw (← c.as_slice-partitions.ensures) c.in-Ok.ensures.planned;
+      scripts_are = scripts_of_plan partitions scripts.items made;
+      ports_are = rw (← c.as_slice-partitions.ensures) c.in-Ok-open_lan.ensures.seats;
+      sound = c.requires.sound.partitions;
+    } in
+    let home : server.server.partition ≡ home_of partitions = server.ensures.partition ∙ (c.home_of-home.ensures ∙ ap home_of c.as_slice-partitions.ensures) in
+    let same : vec_len pairs ≡ length pairs.items = search rules in
+    let size : vec_len server.server.units ≡ length list = search rules in
+    let start : UnitsStart grant server.server.partition list = record {
+      made = server.ensures.made;
+      granting = server.ensures.grants.each;
+      names = λ k unit found. (server.ensures.order (λ told. true) k unit found).id;
+    } in
+    subst (λ (lines : List Grant). ArePlain grant server.server.partition (books_of list lines server.server.records.history.items) pairs.items scripts.items) (sym server.ensures.lines)
+    (subst (λ (rows : List Served). ArePlain grant server.server.partition (books_of list [] rows) pairs.items scripts.items) (sym server.ensures.history)
+    (boots_plainly grant server.server.partition partitions pairs.items scripts.items c.in-Ok-open_lan.lan.seats list home (omega (arith, c.requires.sound.grant)) of_plan
+    (scripts_start partitions scripts.items made) c.in-Ok.ensures.opens (sym size ∙ (server.ensures.units ∙ (c.len.ensures ∙ same))) start))

@@ -1,5 +1,5 @@
 use Rattle.vcpu_run.specs.Links.{AreIdle, AreLinked}
-use Rattle.std.proofs.Common.{rules, ◌≡◌, ◌++◌, All, Err, List, Ok, OnOk, Result, refl, length, take, drop, ◌∙◌, ap, subst, sym}
+use Rattle.std.proofs.Common.{rules, ◌≡◌, ◌++◌, ℕ, All, Err, List, Ok, OnOk, Result, refl, length, take, drop, ◌∙◌, ap, subst, sym}
 use Rattle.std.proofs.lemmas.Option.{IfSome_then}
 use Rattle.vio_num.specs.declared.memory.NoMemory.{NoMemory}
 use Rattle.vcpu_run.specs.declared.pair.Pair.{Pair}
@@ -22,6 +22,9 @@ use Rattle.vcpu_run.specs.PortWords.{PortsTell}
 use Rattle.vcpu_run.specs.PortsRest.{AreTakenTo, PortsEnd}
 use Rattle.vcpu_run.specs.Heard.{AreHeard}
 use Rattle.vcpu_run.proofs.Causings.{caused_told}
+use Rattle.vcpu_run.specs.PlainPairs.{books_of}
+use Rattle.vcpu_run.specs.PlainRuns.{ArePlain}
+use Rattle.vcpu_run.proofs.PlainTold.{plain_same}
 use Rattle.vcpu_run.proofs.machine.Machine.settle.Goals as goal
 
 pub trace_of-trace-requires-clause-pairs : goal.trace_of-trace-requires-clause-pairs
@@ -258,3 +261,36 @@ returns-clause-caused g c =
     (λ partitions of_plan. rw (pairs, scripts) (plan_lasts partitions old.items new old_scripts.items new_scripts c.args.self.lan.seats c.run-run.new.lan.seats stay run c.run-run.ensures.lan of_plan))
     history copies pairs (ap (λ image. (g.Di.Blocks.state image).blocks) c.finish-image.ensures.image)
     c.run-run.ensures.causes c.trace_of-trace.ensures.serves c.trace_of-trace.ensures.shown
+
+pub returns-clause-plainly : goal.returns-clause-plainly
+returns-clause-plainly g c =
+    let old = c.args.self.pairs in
+    let new = c.run-run.new.pairs in
+    let old_scripts = c.args.self.scripts in
+    let new_scripts = c.run-run.new.scripts in
+    let server = c.args.self.server in
+    let server' = c.run-run.new.server in
+    let books = books_of server.units.items server.records.grants.items server.records.history.items in
+    let size : old.len ≡ length old.items = search rules in
+    let size_scripts : old_scripts.len ≡ length old_scripts.items = search rules in
+    let stay : AllStay old.items new = rw (← c.deref_mut.ensures.value) c.run-run.ensures.stay in
+    let run : AllRun old_scripts.items new_scripts = rw (← c.deref_mut-2.ensures.value) c.run-run.ensures.run in
+    let list = take old.len (new ++ drop (length new) old.items) in
+    let list_scripts = take old_scripts.len (new_scripts ++ drop (length new_scripts) old_scripts.items) in
+    let pairs : list ≡ new = lent old.len old.items new size stay.count in
+    let scripts : list_scripts ≡ new_scripts = lent old_scripts.len old_scripts.items new_scripts size_scripts run.count in
+    let rows : c.finish-image.result.history.items ≡ server'.records.history.items = rw c.finish-image.ensures.history refl in
+    let lines : c.finish-image.result.grants.items ≡ server'.records.grants.items = rw c.finish-image.ensures.grants refl in
+    IfSome_then c.trace_of-trace.result c.trace_of-trace.ensures.plainly
+    (λ trace keeps partitions of_plan granted plain.
+    let before : ArePlain granted server.partition books c.deref_mut.result.now c.deref_mut-2.result.now =
+    subst (λ (l : List Pair). ArePlain granted server.partition books l c.deref_mut-2.result.now) (sym c.deref_mut.ensures.value)
+    (subst (λ (l : List Script). ArePlain granted server.partition books old.items l) (sym c.deref_mut-2.ensures.value) plain) in
+    keeps partitions (rw (pairs, scripts) (plan_lasts partitions old.items new old_scripts.items new_scripts c.args.self.lan.seats c.run-run.new.lan.seats stay run c.run-run.ensures.lan of_plan))
+    granted server'.partition server'.units.items
+    (ok_then c.run-run.result
+    ((granted : ℕ) → ArePlain granted server.partition books c.deref_mut.result.now c.deref_mut-2.result.now
+    → ArePlain granted server'.partition (books_of server'.units.items server'.records.grants.items server'.records.history.items) new new_scripts) _
+    (λ kept. plain_same granted server'.partition server'.units.items server'.records.grants.items c.finish-image.result.grants.items
+    server'.records.history.items c.finish-image.result.history.items new list new_scripts list_scripts lines rows pairs scripts (kept granted before))
+    c.run-run.ensures.plainly))

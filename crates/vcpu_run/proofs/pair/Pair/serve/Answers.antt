@@ -4,7 +4,7 @@ use Rattle.vcpu_run.specs.Freed.{FreesNoneAt, IsNotFreed, NotFreed}
 use Rattle.vcpu_run.proofs.Waiting.{agrees_like, agrees_other, serve_frees, serve_full, serve_queue, serve_sent, serve_taken, serve_kept, serve_waits}
 use Rattle.vcpu_run.proofs.Resting.{ok_both}
 use Rattle.vcpu_run.proofs.Crediting.{on_ok}
-use Rattle.std.proofs.Common.{rules, ◌≡◌, ◌≢◌, Bool, List, [], ◌∷◌, false, true, refl, sym, ◌∙◌, ap, subst, IfNone, ◌<◌, IfOk, OnOk, arith, length, slice_get}
+use Rattle.std.proofs.Common.{rules, ◌≡◌, ◌≢◌, Bool, List, [], ◌∷◌, false, true, refl, sym, ◌∙◌, ap, subst, IfNone, ◌<◌, IfOk, OnOk, arith, get_or, length, slice_get}
 use Rattle.std.proofs.lemmas.List.Elements.{All-weaker}
 use Rattle.vio_num.specs.declared.names.UnitId.{UnitId}
 use Rattle.block_server.specs.Advances.{IsOwnCopy}
@@ -13,12 +13,13 @@ use Rattle.block_server.specs.Moves.{data_copies}
 use Rattle.block_server.proofs.RunRests.{others_none}
 use Rattle.vcpu_run.specs.Heard.{AllGoBy, UnitGoesBy, TellsPair}
 use Rattle.vcpu_run.proofs.HeardTurns.{tells_turn, told_elsewhere, told_served}
-use Rattle.crq_session.specs.EndState.{EndPlace}
+use Rattle.crq_session.specs.EndState.{EndPlace, EndState}
 use Rattle.crq_session.specs.declared.link.PlainLink.{PlainLink}
-use Rattle.crq_session.specs.PlainState.{partner_of, side_of, state_of}
+use Rattle.crq_session.specs.PlainState.{end_of, partner_of, side_of, state_of}
 use Rattle.crq_session.specs.declared.side.PlainSide.{PlainSide}
 use Rattle.crq_ring.specs.declared.rows.PipeRow.{PipeRow}
 use Rattle.block_server.specs.Answering.{AnswersMore, OnlyRowsOf}
+use Rattle.block_server.specs.Turns.{IsStill}
 use Rattle.vcpu_run.specs.declared.pair.Pair.{Pair}
 use Rattle.vcpu_run.specs.Answered.{AreBegun, IsAnswered}
 use Rattle.tce_window.specs.PlainPort.{known_of}
@@ -30,6 +31,9 @@ use Rattle.vcpu_run.proofs.Answering.{answered_elsewhere, answered_served}
 use Rattle.vcpu_run.specs.Received.{IsReceived}
 use Rattle.vcpu_run.proofs.Gone.{gone_back, hears_back, hears_lent}
 use Rattle.vcpu_run.proofs.LoginsDealt.{closed_so}
+use Rattle.std.proofs.Math.Logic.{∥∥₁_elim, ∥∥₁_map₂, ∥∥₁_prop}
+use Rattle.std.proofs.lemmas.Option.{slice_get-get_or}
+use Rattle.vcpu_run.proofs.LastServed.{line_own, turn_last}
 use Rattle.vcpu_run.proofs.Losing.{behind_back, sees_back, sees_lent}
 use Rattle.vcpu_run.proofs.Receiving.{received_elsewhere, received_served}
 use Rattle.vcpu_run.proofs.Keeping.{served}
@@ -38,6 +42,11 @@ use Rattle.vcpu_run.proofs.ShutKept.{begun_back, served_link}
 use Rattle.vcpu_run.specs.DropsShown.{KeepsFull}
 use Rattle.tce_window.specs.Window.{strokes_at}
 use Rattle.vcpu_run.proofs.ClientsServed.{none_owned}
+use Rattle.vcpu_run.specs.Machines.{server_id}
+use Rattle.vcpu_run.specs.PlainPairs.{ServesPlainly, books_of}
+use Rattle.vcpu_run.proofs.Elsewhere.{ok_then}
+use Rattle.vcpu_run.proofs.PlainIdles.{idle_ok, ids_stay}
+use Rattle.vcpu_run.proofs.PlainPaired.{TurnsOn, idles_pair, served_pair, spares_unit, turns_ok}
 use Rattle.vcpu_run.proofs.pair.Pair.serve.Goals as goal
 
 pub returns-clause-pair : goal.returns-clause-pair
@@ -156,6 +165,7 @@ returns-clause-received g c =
     ap (λ (b : Bool). side_of c.side.result.link.now b) c.side.ensures.first ∙ ap (λ (l : PlainLink). side_of l true) c.side.ensures.link in
     let after : side_of link c.turn.new.crq.end.first ≡ side_of link true = ap (λ (b : Bool). side_of link b) first in
     let link_is : link ≡ c.self-1.given.0 = search rules in
+    let less : c.args.unit < length server.units.items = omega (arith, c.requires.unit) in
     subst (λ (l : PlainLink). IsReceived server'.units.items server'.copies.items server'.records.grants.items server'.records.history.items c.args.unit
     (record { server = old.server; link = l; own = c.turn.new.own; window = c.turn.new.client; driver = old.driver })) link_is
     (received_served server.units.items server'.units.items c.args.unit old new (state_of c.side.result) (state_of c.turn.new.crq.end) server.copies.items server'.copies.items
@@ -169,7 +179,17 @@ returns-clause-received g c =
     (agrees_like server'.units.items c.args.unit _ _ (ap (λ (side : PlainSide). side.registered) (sym after))
     (c.turn.ensures.agrees (agrees_like server.units.items c.args.unit _ _ (ap (λ (side : PlainSide). side.registered) before) c.requires.received.agrees)))
     (sees_lent c.side.result.first [] _ old.link c.side.result.link.now c.side.ensures.first c.side.ensures.link)
-    (sees_back c.turn.new.crq.end.first [] _ link first) (ap (λ (place : PortPlace). place.unit) c.turn.ensures.goes.own_place) (c.turn.ensures.answered refl) c.requires.received)
+    (sees_back c.turn.new.crq.end.first [] _ link first) (ap (λ (place : PortPlace). place.unit) c.turn.ensures.goes.own_place) (c.turn.ensures.answered refl)
+    (λ u e. (get_or server.units.items c.args.unit u, slice_get-get_or server.units.items c.args.unit u less))
+    (∥∥₁_elim c.turn.ensures.lines ∥∥₁_prop
+    (λ lines. ∥∥₁_map₂ c.turn.ensures.others c.turn.ensures.answers
+    (λ only answers. (
+      lines,
+      turn_last c.side.result.first c.turn.new.crq.end.first (c.side.result.link.ghost_name ∷ []) (c.turn.new.crq.end.link.ghost_name ∷ []) c.side.result.link.now old.link link old.own.unit lines.more
+          server.records.history.items server'.records.history.items c.side.ensures.first c.side.ensures.link c.turn.ensures.goes.queue_place (c.turn.ensures.sessions refl) (c.turn.ensures.partner refl)
+          c.turn.ensures.goes.session c.turn.ensures.goes.taken c.turn.new.crq.behind (line_own old.own.unit _ server.records.grants.items server'.records.grants.items lines) only answers,
+    ))))
+    c.requires.received)
 
 pub returns-clause-received_else : goal.returns-clause-received_else
 returns-clause-received_else g c = λ k other apart own.
@@ -362,3 +382,71 @@ returns-clause-values g c = λ i e. c.turn.ensures.values e i
 pub returns-clause-owner : goal.returns-clause-owner
 returns-clause-owner g c page =
     none_owned c.args.self.now.window.unit (strokes_at c.args.self.now.window.pages page) (strokes_at c.turn.new.client.pages page) (c.turn.ensures.owner refl page)
+
+pub returns-clause-plainly : goal.returns-clause-plainly
+returns-clause-plainly g c =
+    let old = c.args.self.now in
+    let server = c.args.server.now in
+    let server' = c.turn.new.self in
+    let unit = c.args.unit in
+    let link = c.turn.new.crq.end.link.now in
+    let goes = c.turn.ensures.goes in
+    let books = books_of server.units.items server.records.grants.items server.records.history.items in
+    let books' = books_of server'.units.items server'.records.grants.items server'.records.history.items in
+    let lent = c.side.result.link.ghost_name ∷ [] in
+    let back = c.turn.new.crq.end.link.ghost_name ∷ [] in
+    let first : c.turn.new.crq.end.first ≡ true = ap (λ (place : EndPlace). place.first) goes.queue_place ∙ c.side.ensures.first in
+    let before : state_of c.side.result ≡ end_of lent old.link true =
+    ap (λ (b : Bool). end_of lent c.side.result.link.now b) c.side.ensures.first ∙ ap (λ (l : PlainLink). end_of lent l true) c.side.ensures.link in
+    let after : state_of c.turn.new.crq.end ≡ end_of back link true = ap (λ (b : Bool). end_of back link b) first in
+    let turns = turns_ok c.turn.result books books' unit (state_of c.side.result) (state_of c.turn.new.crq.end) (known_of old.window) (known_of c.turn.new.client)
+    c.turn.ensures.talks c.turn.ensures.places c.turn.ensures.leaves c.turn.ensures.rows c.turn.ensures.opens
+    (ids_stay _ _ _ _ server.partition server'.partition server.units.items server'.units.items server.records server'.records c.turn.ensures.partition server.serving server'.serving unit)
+    goes.queue_place (c.turn.ensures.partner refl) goes.put c.turn.new.crq.behind.low goes.client_place in
+    let link_is : link ≡ c.self-1.given.0 = search rules in
+    subst (λ (l : PlainLink). OnOk c.turn.result (ServesPlainly server.partition books books' unit old
+    (record { server = old.server; link = l; own = c.turn.new.own; window = c.turn.new.client; driver = old.driver }))) link_is
+    (ok_then c.turn.result _ _
+    (λ on granted is. served_pair granted server.partition unit books books' lent back old
+    (record { server = old.server; link = link; own = c.turn.new.own; window = c.turn.new.client; driver = old.driver }) refl
+    (subst (λ (end : EndState). TurnsOn books books' unit end (end_of back link true) (known_of old.window) (known_of c.turn.new.client)) before
+    (subst (λ (end : EndState). TurnsOn books books' unit (state_of c.side.result) end (known_of old.window) (known_of c.turn.new.client)) after on)) is)
+    turns)
+
+pub returns-clause-idles : goal.returns-clause-idles
+returns-clause-idles g c =
+    let old = c.args.self.now in
+    let server = c.args.server.now in
+    let server' = c.turn.new.self in
+    let unit = c.args.unit in
+    let link = c.turn.new.crq.end.link.now in
+    let goes = c.turn.ensures.goes in
+    let books = books_of server.units.items server.records.grants.items server.records.history.items in
+    let books' = books_of server'.units.items server'.records.grants.items server'.records.history.items in
+    let lent = c.side.result.link.ghost_name ∷ [] in
+    let back = c.turn.new.crq.end.link.ghost_name ∷ [] in
+    let first : c.turn.new.crq.end.first ≡ true = ap (λ (place : EndPlace). place.first) goes.queue_place ∙ c.side.ensures.first in
+    let before : state_of c.side.result ≡ end_of lent old.link true =
+    ap (λ (b : Bool). end_of lent c.side.result.link.now b) c.side.ensures.first ∙ ap (λ (l : PlainLink). end_of lent l true) c.side.ensures.link in
+    let after : state_of c.turn.new.crq.end ≡ end_of back link true = ap (λ (b : Bool). end_of back link b) first in
+    let turns = turns_ok c.turn.result books books' unit (state_of c.side.result) (state_of c.turn.new.crq.end) (known_of old.window) (known_of c.turn.new.client)
+    c.turn.ensures.talks c.turn.ensures.places c.turn.ensures.leaves c.turn.ensures.rows c.turn.ensures.opens
+    (ids_stay _ _ _ _ server.partition server'.partition server.units.items server'.units.items server.records server'.records c.turn.ensures.partition server.serving server'.serving unit)
+    goes.queue_place (c.turn.ensures.partner refl) goes.put c.turn.new.crq.behind.low goes.client_place in
+    idle_ok c.turn.result (λ moved. moved ≡ Quiet) _ _ _ _
+    (λ on still way granted is. idles_pair granted server.partition unit books books' lent back old
+    (record { server = old.server; link = link; own = c.turn.new.own; window = c.turn.new.client; driver = old.driver })
+    (subst (λ (end : EndState). TurnsOn books books' unit end (end_of back link true) (known_of old.window) (known_of c.turn.new.client)) before
+    (subst (λ (end : EndState). TurnsOn books books' unit (state_of c.side.result) end (known_of old.window) (known_of c.turn.new.client)) after on))
+    (subst (λ (end : EndState). IsStill end (end_of back link true)) before (subst (λ (end : EndState). IsStill (state_of c.side.result) end) after still))
+    way is)
+    turns c.turn.ensures.quiet c.turn.ensures.way
+
+pub returns-clause-plainly_else : goal.returns-clause-plainly_else
+returns-clause-plainly_else g c = λ k apart.
+    let server = c.args.server.now in
+    let server' = c.turn.new.self in
+    let own : c.args.self.now.own.unit ≡ server_id server.partition c.args.unit = c.requires.pair.own_unit ∙ c.requires.pair.server in
+    spares_unit server.partition k _ (books_of server.units.items server.records.grants.items server.records.history.items)
+    (books_of server'.units.items server'.records.grants.items server'.records.history.items)
+    c.args.self.now.own.unit (λ is. apart (sym (ap (λ (u : UnitId). u.unit) (sym own ∙ is)))) (c.turn.ensures.others_stay k apart) c.turn.ensures.lines c.turn.ensures.others

@@ -4,6 +4,8 @@ use Rattle.vcpu_run.proofs.Answering.{answered_new}
 use Rattle.tce_window.specs.Window.{WindowValue}
 use Rattle.vcpu_run.proofs.Opened.{bare_new, driver_new, pair_new, untaken_new}
 use Rattle.vcpu_run.proofs.FewEvents.{no_events}
+use Rattle.vcpu_run.specs.declared.pair.Pair.{Pair}
+use Rattle.vcpu_run.proofs.PlainOpened.{opened_new}
 use Rattle.vcpu_run.proofs.pair.Pair.with_client.Goals as goal
 
 pub returns-clause-pair : goal.returns-clause-pair
@@ -36,3 +38,17 @@ returns-clause-fresh c =
       bare = bare_new c.args.seat.unit c.args.seat.pages c.in_ok-open-2.field-0 c.in_ok-open-2.ensures;
       events = no_events c.in_ok-open_link.field-0 new.first.queue.sent new.second.kept;
     }
+
+pub returns-clause-opens : goal.returns-clause-opens
+returns-clause-opens c =
+    let seat = c.args.seat in
+    let driver = c.in_ok-open-3 in
+    let pair : Pair = record {
+      server = c.args.server;
+      link = c.in_ok-open_link.field-0;
+      own = c.in_ok-open.field-0;
+      window = c.in_ok-open-2.field-0;
+      driver = Some driver.field-0;
+    } in
+    opened_new pair driver.field-0 seat.unit c.args.server seat.pages c.args.queue seat.queue c.in_ok-open_link.ensures (omega (arith, c.requires.queue)) (omega (arith, c.requires.seat.queue))
+    c.in_ok-open-2.ensures (omega (arith, c.requires.seat.pages)) (omega (arith, c.requires.seat.pages)) driver.ensures.unit driver.ensures.client

@@ -7,6 +7,7 @@ use Rattle.unit_region.specs.declared.step.Step.TheVariants as steps
 use Rattle.vcpu_run.specs.Credited.{StepsAgreed, grants, is_take, taken_in}
 use Rattle.vcpu_run.specs.CallsSaid.{seen_from}
 use Rattle.vcpu_run.specs.Suited.{IsLineAt, is_call}
+use Rattle.vcpu_run.specs.Works.{fails}
 use Rattle.vcpu_run.proofs.DataNoted.{keep_same}
 use Rattle.vcpu_run.proofs.CallsKept.{says_none}
 use Rattle.vcpu_run.proofs.CallRecords.{calls_ends}
@@ -21,6 +22,7 @@ use Rattle.vcpu_run.proofs.Credits.{plain_fresh, takes_same, took_agreed}
 use Rattle.vcpu_run.proofs.ScriptsTold.{EndsWaiting, of_login, of_reset, of_take, waiting_shows, waiting_told}
 use Rattle.vcpu_run.proofs.Held.{waited_held}
 use Rattle.vcpu_run.proofs.Logging.{all_at}
+use Rattle.vcpu_run.proofs.PlainTurning.{waiting_ends}
 use Rattle.vcpu_run.proofs.script.Script.end_waiting.Goals.{in-Login, in-Reset, in-Take}
 use Rattle.vcpu_run.proofs.PortTelling.{taken_within}
 use Rattle.vcpu_run.proofs.PortsTelling.{quiet_tells, took_tells}
@@ -80,10 +82,10 @@ returns-clause-told c = λ pairs lan script tells.
     elim c.match-line.branch [
       | in-Login w ↦ quiet_tells lan c.args.self.now c.end.new.self c.in-Some.line.now _ found reached rest.partition rest.lines rest.seats
           c.in_ok-end.ensures.ended.logs fresh (ap frame_of w.outcome-is) (ap counts_told w.outcome-is)
-          (subst (λ (v : Verb). (d : ℕ) → counts_by v d ≡ counts 0 0) (sym w.in-Login.is) (λ d. refl)) (ap is_replayed w.in-Login.is) (ap is_put w.in-Login.is) (ap is_in_region w.in-Login.is) (ap is_call w.in-Login.is) tells
+          (subst (λ (v : Verb). (d : ℕ) → counts_by v d ≡ counts 0 0) (sym w.in-Login.is) (λ d. refl)) (ap is_replayed w.in-Login.is) (ap is_put w.in-Login.is) (ap is_in_region w.in-Login.is) (ap is_call w.in-Login.is) (ap fails w.in-Login.is) tells
       | in-Reset w ↦ quiet_tells lan c.args.self.now c.end.new.self c.in-Some.line.now _ found reached rest.partition rest.lines rest.seats
           c.in_ok-end.ensures.ended.logs fresh (ap frame_of w.outcome-is) (ap counts_told w.outcome-is)
-          (subst (λ (v : Verb). (d : ℕ) → counts_by v d ≡ counts 0 0) (sym w.in-Reset.is) (λ d. refl)) (ap is_replayed w.in-Reset.is) (ap is_put w.in-Reset.is) (ap is_in_region w.in-Reset.is) (ap is_call w.in-Reset.is) tells
+          (subst (λ (v : Verb). (d : ℕ) → counts_by v d ≡ counts 0 0) (sym w.in-Reset.is) (λ d. refl)) (ap is_replayed w.in-Reset.is) (ap is_put w.in-Reset.is) (ap is_in_region w.in-Reset.is) (ap is_call w.in-Reset.is) (ap fails w.in-Reset.is) tells
       | in-Take w ↦ took_tells lan c.args.self.now c.end.new.self c.in-Some.line.now _ _ (taken_in c.args.self.now.progress) found reached rest.partition rest.lines rest.seats
           c.in_ok-end.ensures.ended.logs fresh (w.outcome-is ∙ ap (λ n. outcomes.Took n) w.taken.ensures) w.in-Take.is (taken_within c.args.self.now.progress) tells
     ]
@@ -165,3 +167,19 @@ returns-clause-logged c = λ pairs script copies made is.
           (says_none (seen_from c.args.self.now.partition c.args.self.now.seats.items pairs) c.in-Some.line.now.verb c.match-line.outcome other)
           c.end.ensures.rest.partition c.end.ensures.rest.lines c.end.ensures.rest.seats c.in_ok-end.ensures.ended.logs is.calls;
     }
+
+pub returns-clause-plainly : goal.returns-clause-plainly
+returns-clause-plainly c = λ granted u k pairs script none stands.
+    let found : slice_get c.args.self.now.lines.now c.args.self.now.at ≡ Some c.in-Some.line.now =
+    slice_get_read c.args.self.now.lines.now (length c.args.self.now.lines.now) c.args.self.now.at c.in-Some.line.now refl
+    (less_by c.args.self.now.at (length c.args.self.now.lines.now) (sym c.in-Some.ensures.lookup.0)) c.in-Some.ensures.lookup.1 in
+    let ends : EndsWaiting c.args.self.now.progress c.in-Some.line.now.verb c.match-line.outcome =
+    elim c.match-line.branch [
+      | in-Login w ↦ of_login w.in-Login.is w.outcome-is
+      | in-Reset w ↦ of_reset w.in-Reset.is w.outcome-is
+      | in-Take w ↦ of_take w.in-Take.count w.in-Take.is (w.outcome-is ∙ ap (λ n. outcomes.Took n) w.taken.ensures)
+    ] in
+    waiting_ends granted u k pairs c.args.self.now c.end.new.self c.in-Some.line.now
+    (record { partition = c.args.self.now.partition; line = c.in-Some.line.now.number; outcome = c.match-line.outcome })
+    found (script.logs.reached (slice_get_within c.args.self.now.lines.now c.args.self.now.at c.in-Some.line.now found)) ends
+    c.end.ensures.rest.lines c.in_ok-end.ensures.ended.logs c.in_ok-end.ensures.fresh none stands

@@ -17,6 +17,7 @@ use Rattle.vcpu_run.proofs.Held.{none_held, turned_held}
 use Rattle.vcpu_run.proofs.PortsTelling.{rest_tells}
 use Rattle.vcpu_run.proofs.Elsewhere.{ok_then}
 use Rattle.vcpu_run.specs.PortsRest.{PortsRest}
+use Rattle.vcpu_run.proofs.PlainTurning.{rests_plainly, rests_quietly}
 use Rattle.vcpu_run.proofs.script.Script.go_on.Goals as goal
 
 pub take_rest-requires-clause-few : goal.take_rest-requires-clause-few
@@ -95,3 +96,18 @@ returns-in-None-clause-logged c =
       calls = calls_still c.args.pairs.now c.take_rest.new.pairs c.args.self.now (driven_stay c.args.pairs.now c.take_rest.new.pairs c.take_rest.ensures.driven) c.take_rest.ensures.lays is.calls;
     })
     c.take_rest.ensures.gives
+
+pub returns-in-None-clause-plainly : goal.returns-in-None-clause-plainly
+returns-in-None-clause-plainly c =
+    let over : length c.args.self.now.lines.now ≤ c.args.self.now.at = over_by c.args.self.now.at (length c.args.self.now.lines.now) (sym c.get.ensures.lookup.0 ∙ ap is_some c.in-None.is) in
+    ok_then c.take_rest.result _ _
+    (λ rests.
+    rests_plainly c.args.pairs.now c.take_rest.new.pairs c.args.self.now (slice_get_past c.args.self.now.lines.now c.args.self.now.at over) c.requires.script.seats c.take_rest.ensures.driven rests)
+    c.take_rest.ensures.plainly
+
+pub returns-in-None-clause-quiets : goal.returns-in-None-clause-quiets
+returns-in-None-clause-quiets c =
+    let over : length c.args.self.now.lines.now ≤ c.args.self.now.at = over_by c.args.self.now.at (length c.args.self.now.lines.now) (sym c.get.ensures.lookup.0 ∙ ap is_some c.in-None.is) in
+    ok_more c.take_rest.result _ _
+    (λ moved rests is. rests_quietly c.args.pairs.now c.take_rest.new.pairs c.args.self.now (slice_get_past c.args.self.now.lines.now c.args.self.now.at over))
+    c.take_rest.ensures.quiet

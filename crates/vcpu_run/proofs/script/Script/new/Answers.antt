@@ -6,6 +6,7 @@ use Rattle.vcpu_run.proofs.ScriptsTold.{new_told}
 use Rattle.vcpu_run.proofs.Logging.{logged_none}
 use Rattle.vcpu_run.specs.declared.script.Progress.TheVariants as progress
 use Rattle.vcpu_run.proofs.PortsTelling.{fresh_tells}
+use Rattle.vcpu_run.proofs.PlainTurning.{starts_plainly}
 use Rattle.vcpu_run.proofs.script.Script.new.Goals as goal
 
 pub returns-clause-script : goal.returns-clause-script
@@ -37,3 +38,7 @@ returns-clause-said c = λ pairs out untaken. new_told pairs _ c.new.ensures.ite
 
 pub returns-clause-fresh : goal.returns-clause-fresh
 returns-clause-fresh c = c.new.ensures.items
+
+pub returns-clause-plainly : goal.returns-clause-plainly
+returns-clause-plainly c = λ granted u pair new.
+    starts_plainly granted u _ pair new.driver new.driver.unit new.server c.new.ensures.items refl new.driver_is new.client new.queue

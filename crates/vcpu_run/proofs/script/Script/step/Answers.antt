@@ -34,6 +34,8 @@ use Rattle.vcpu_run.specs.PortMacs.{EndsPorts}
 use Rattle.vcpu_run.specs.PortSteps.{TellsStep}
 use Rattle.vcpu_run.specs.PortWords.{done_in}
 use Rattle.vcpu_run.proofs.PortsTelling.{port_waits, step_tells}
+use Rattle.vcpu_run.specs.PlainScripts.{LinePlainly}
+use Rattle.vcpu_run.proofs.PlainScripted.{ends_plainly, waits_plainly, waits_quietly}
 use Rattle.vcpu_run.proofs.script.Script.step.Goals as goal
 
 pub step_unit-requires : goal.step_unit-requires
@@ -69,6 +71,8 @@ returns-in_err-step c =
       out = search rules;
       opened = search rules;
       quiet = search rules;
+      plainly = search rules;
+      quiets = search rules;
     }
 
 pub returns-in_err-end-in-Ends : goal.returns-in_err-end-in-Ends
@@ -90,6 +94,8 @@ returns-in_err-end-in-Ends c =
       out = search rules;
       opened = search rules;
       quiet = search rules;
+      plainly = search rules;
+      quiets = search rules;
     }
 
 pub returns-in_ok-end-in-Ends : goal.returns-in_ok-end-in-Ends
@@ -156,7 +162,7 @@ returns-in_ok-end-in-Ends c =
           (record { partition = c.args.self.now.partition; line = c.args.line.now.number; outcome = c.in-Ends.outcome }) (done_in c.step_unit.new.progress)
           c.requires.line (c.requires.script.logs.reached (slice_get_within c.args.self.now.lines.now c.args.self.now.at c.args.line.now c.requires.line))
           c.end.ensures.rest.partition c.end.ensures.rest.lines c.end.ensures.rest.seats c.in_ok-end-in-Ends.ensures.ended.logs (ap done_in c.in_ok-end-in-Ends.ensures.fresh)
-          c.step_unit.ensures.lan
+          (one_unit c.args.line.now.verb c.in_default.not-Fail) c.step_unit.ensures.lan
           (λ call.
           subst (λ (st : Step). EndsPorts c.args.self.now.partition c.args.line.now.verb c.args.lan.now c.step_unit.new.lan st) c.in-Ends.is
           (c.in_ok-step.ensures.ports call))
@@ -178,6 +184,19 @@ returns-in_ok-end-in-Ends c =
       out = λ is. absurd (not_quiet is);
       opened = λ is. absurd (not_quiet is);
       quiet = λ is. absurd (not_quiet is);
+      plainly =
+          ends_plainly c.args.pairs.now c.step_unit.new.pairs c.args.self.now c.end.new.self c.step_unit.new.progress c.args.line.now
+          (record { partition = c.args.self.now.partition; line = c.args.line.now.number; outcome = c.in-Ends.outcome })
+          c.requires.line line.suited c.requires.script.seats c.step_unit.ensures.driven
+          (c.requires.script.logs.reached (slice_get_within c.args.self.now.lines.now c.args.self.now.at c.args.line.now c.requires.line))
+          (λ no.
+          (subst (λ (st : Step). LineTold c.args.self.now.seats.items c.args.line.now c.args.self.now.progress c.step_unit.new.progress c.args.pairs.now c.step_unit.new.pairs (Ok st)) c.in-Ends.is
+          (rw (← c.deref.ensures.value) (c.in_ok-step.ensures.said (all_at (λ (l : Line). is_call l.verb ≡ false) c.args.self.now.lines.now c.args.self.now.at c.args.line.now c.requires.line no)))))
+          (λ no.
+          (subst (λ (st : Step). LinePlainly c.args.self.now.seats.items c.args.line.now c.args.self.now.progress c.step_unit.new.progress c.args.pairs.now c.step_unit.new.pairs (Ok st)) c.in-Ends.is
+          (rw (← c.deref.ensures.value) (c.in_ok-step.ensures.plainly (all_at (λ (l : Line). is_call l.verb ≡ false) c.args.self.now.lines.now c.args.self.now.at c.args.line.now c.requires.line no)))))
+          c.end.ensures.rest.lines c.in_ok-end-in-Ends.ensures.ended.logs c.in_ok-end-in-Ends.ensures.fresh;
+      quiets = λ is. absurd (not_quiet is);
     }
 
 pub returns-in-Waits : goal.returns-in-Waits
@@ -250,6 +269,24 @@ returns-in-Waits c =
           (c.in-Waits.is ∙ ap (λ m. steps.Waits m) is)
           (rw (← c.deref.ensures.value) (c.in_ok-step.ensures.registered no)));
       quiet = λ is over. let less = slice_get_within c.args.self.now.lines.now c.args.self.now.at c.args.line.now c.requires.line in omega (arith, less, over);
+      plainly =
+          waits_plainly c.args.pairs.now c.step_unit.new.pairs c.args.self.now c.step_unit.new.progress c.args.line.now c.in-Waits.moved
+          c.requires.line line.suited c.requires.script.seats c.step_unit.ensures.driven
+          (λ no.
+          (subst (λ (st : Step). LineTold c.args.self.now.seats.items c.args.line.now c.args.self.now.progress c.step_unit.new.progress c.args.pairs.now c.step_unit.new.pairs (Ok st)) c.in-Waits.is
+          (rw (← c.deref.ensures.value) (c.in_ok-step.ensures.said (all_at (λ (l : Line). is_call l.verb ≡ false) c.args.self.now.lines.now c.args.self.now.at c.args.line.now c.requires.line no)))))
+          (λ no.
+          (subst (λ (st : Step). LinePlainly c.args.self.now.seats.items c.args.line.now c.args.self.now.progress c.step_unit.new.progress c.args.pairs.now c.step_unit.new.pairs (Ok st)) c.in-Waits.is
+          (rw (← c.deref.ensures.value) (c.in_ok-step.ensures.plainly (all_at (λ (l : Line). is_call l.verb ≡ false) c.args.self.now.lines.now c.args.self.now.at c.args.line.now c.requires.line no)))));
+      quiets = λ is.
+          waits_quietly c.args.pairs.now c.step_unit.new.pairs c.args.self.now c.step_unit.new.progress c.args.line.now
+          c.requires.line line.suited c.requires.script.seats c.step_unit.ensures.driven
+          (λ no.
+          (subst (λ (st : Step). LineTold c.args.self.now.seats.items c.args.line.now c.args.self.now.progress c.step_unit.new.progress c.args.pairs.now c.step_unit.new.pairs (Ok st)) (c.in-Waits.is ∙ ap (λ m. steps.Waits m) is)
+          (rw (← c.deref.ensures.value) (c.in_ok-step.ensures.said (all_at (λ (l : Line). is_call l.verb ≡ false) c.args.self.now.lines.now c.args.self.now.at c.args.line.now c.requires.line no)))))
+          (λ no.
+          (subst (λ (st : Step). LinePlainly c.args.self.now.seats.items c.args.line.now c.args.self.now.progress c.step_unit.new.progress c.args.pairs.now c.step_unit.new.pairs (Ok st)) (c.in-Waits.is ∙ ap (λ m. steps.Waits m) is)
+          (rw (← c.deref.ensures.value) (c.in_ok-step.ensures.plainly (all_at (λ (l : Line). is_call l.verb ≡ false) c.args.self.now.lines.now c.args.self.now.at c.args.line.now c.requires.line no)))));
     }
 
 pub returns-in-Fail-clause-out : goal.returns-in-Fail-clause-out

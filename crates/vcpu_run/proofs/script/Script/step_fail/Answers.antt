@@ -11,6 +11,7 @@ use Rattle.vcpu_run.proofs.PortLines.{fails_apart}
 use Rattle.vcpu_run.proofs.Crediting.{credited_all, credited_fails}
 use Rattle.vcpu_run.proofs.Driving.{clients_of}
 use Rattle.vcpu_run.specs.Agreed.{SameElse}
+use Rattle.vcpu_run.specs.FailedPorts.{PortsClosed}
 use Rattle.vcpu_run.specs.FailedShut.{SeatsShut}
 use Rattle.vcpu_run.proofs.ScriptsTold.{fail_ends_told, fail_out, fail_waits_told}
 use Rattle.vcpu_run.proofs.Logging.{script_stays}
@@ -21,6 +22,7 @@ use Rattle.vcpu_run.specs.CallsSaid.{seen_from}
 use Rattle.vcpu_run.proofs.CallsKept.{fails_no_call, says_none}
 use Rattle.vcpu_run.proofs.PortsTelling.{failed_tells, failing_tells}
 use Rattle.vcpu_run.specs.PortWords.{done_in}
+use Rattle.vcpu_run.proofs.PlainTurning.{fails_plainly, fails_quietly}
 use Rattle.vcpu_run.proofs.script.Script.step_fail.Goals as goal
 
 pub fail-requires-clause-few : goal.fail-requires-clause-few
@@ -87,10 +89,14 @@ returns-clause-unfreed c = λ keep. fails_held c.fail.new.pairs c.args.self.now 
 
 pub returns-then-branch-clause-told : goal.returns-then-branch-clause-told
 returns-then-branch-clause-told c = λ tells.
+    let over : c.end.new.self.at ≡ length c.end.new.self.lines.now =
+    c.in_ok-end.ensures.at ∙ (ap (λ b. cond b (length c.args.self.now.lines.now) (c.args.self.now.at + 1)) c.requires.fails
+    ∙ sym (ap (λ lines. length lines.now) c.end.ensures.rest.lines)) in
     failed_tells c.args.lan.now c.fail.new.lan c.args.self.now c.end.new.self c.args.line.now _ c.requires.line
     (c.requires.script.logs.reached (slice_get_within c.args.self.now.lines.now c.args.self.now.at c.args.line.now c.requires.line))
     c.end.ensures.rest.partition c.end.ensures.rest.lines c.end.ensures.rest.seats c.in_ok-end.ensures.ended.logs (ap done_in c.in_ok-end.ensures.fresh)
-    refl refl c.requires.fails c.fail.ensures.idle tells
+    refl refl c.requires.fails c.fail.ensures.idle over
+    (subst (λ (seats : List Seat). PortsClosed c.args.self.now.partition seats c.fail.new.lan) c.deref.ensures.value (c.in_ok-fail.ensures.closes (grind arith))) tells
 
 pub returns-clause-told : goal.returns-clause-told
 returns-clause-told c = λ tells.
@@ -155,3 +161,15 @@ returns-clause-logged c = λ copies made is. record {
       (keep_gives c.args.pairs.now c.fail.new.pairs c.in_ok-fail.ensures.gives) c.fail.ensures.lays is.strokes;
   calls = calls_still c.args.pairs.now c.fail.new.pairs c.args.self.now (driven_stay c.args.pairs.now c.fail.new.pairs c.fail.ensures.driven) c.fail.ensures.lays is.calls;
 }
+
+pub returns-then-branch-clause-plainly : goal.returns-then-branch-clause-plainly
+returns-then-branch-clause-plainly c = fails_plainly c.args.pairs.now c.fail.new.pairs c.args.self.now c.end.new.self c.args.line.now c.requires.line c.requires.fails
+
+pub returns-clause-plainly : goal.returns-clause-plainly
+returns-clause-plainly c = fails_plainly c.args.pairs.now c.fail.new.pairs c.args.self.now c.args.self.now c.args.line.now c.requires.line c.requires.fails
+
+pub returns-then-branch-clause-quiets : goal.returns-then-branch-clause-quiets
+returns-then-branch-clause-quiets c = λ is. absurd (not_quiet is)
+
+pub returns-clause-quiets : goal.returns-clause-quiets
+returns-clause-quiets c = λ is. fails_quietly c.args.pairs.now c.fail.new.pairs c.args.self.now c.args.self.now c.args.line.now c.requires.line c.requires.fails

@@ -12,6 +12,7 @@ use Rattle.vcpu_run.proofs.Logging.{script_stays}
 use Rattle.vcpu_run.specs.Links.{EventsWait}
 use Rattle.vcpu_run.proofs.Held.{still_held, turned_held}
 use Rattle.vcpu_run.proofs.Resting.{events_rest, rests_on}
+use Rattle.vcpu_run.proofs.PlainTurning.{pushes_plainly, pushes_quietly}
 use Rattle.vcpu_run.proofs.script.Script.turn.Goals as goal
 
 pub push_events-requires : goal.push_events-requires
@@ -89,3 +90,13 @@ returns-clause-logged c = λ copies made is.
       calls = calls_served c.args.pairs.now c.push_events.new.pairs c.args.self.now (driven_stay c.args.pairs.now c.push_events.new.pairs c.push_events.ensures.driven)
           c.push_events.ensures.clients is.calls;
     })
+
+pub returns-clause-plainly : goal.returns-clause-plainly
+returns-clause-plainly c =
+    pushes_plainly c.args.pairs.now c.push_events.new.pairs c.go_on.new.pairs c.args.self.now c.go_on.new.self c.requires.script.seats c.push_events.ensures.driven c.push_events.ensures.clients
+    c.in_ok-pushed.ensures.plainly c.in_ok-moved.ensures.plainly
+
+pub returns-clause-quiets : goal.returns-clause-quiets
+returns-clause-quiets c = λ is.
+    pushes_quietly c.args.pairs.now c.push_events.new.pairs c.go_on.new.pairs c.args.self.now c.go_on.new.self c.requires.script.seats c.push_events.ensures.driven c.push_events.ensures.clients
+    c.in_ok-pushed.ensures.plainly (c.in_ok-moved.ensures.quiets (c.either.ensures.other is))

@@ -1,5 +1,6 @@
 use Rattle.crq_session.specs.PlainState.{state_of}
 use Rattle.vcpu_run.proofs.Gone.{gone_same}
+use Rattle.vcpu_run.proofs.Losing.{behind_same}
 use Rattle.vcpu_run.proofs.ShutKept.{begun_sends, in_session}
 use Rattle.vcpu_run.proofs.session_end.SessionEndCrqEnd.send.Goals as goal
 
@@ -11,3 +12,7 @@ pub invariant_of-self-clause-served : goal.invariant_of-self-clause-served
 invariant_of-self-clause-served c =
     begun_sends (state_of c.args.self.now.end) (state_of c.send.new.self) c.args.entry c.send.result (in_session c.args.self.now.end) c.send.ensures.rest c.send.ensures.may
     c.send.ensures.refused c.args.self.now.served
+
+pub invariant_of-self-clause-behind : goal.invariant_of-self-clause-behind
+invariant_of-self-clause-behind c =
+    behind_same (state_of c.args.self.now.end) (state_of c.send.new.self) c.send.ensures.rest.last_session c.send.ensures.rest.taken c.send.ensures.rest.place c.args.self.now.behind

@@ -1,0 +1,276 @@
+-- A turn of a plain client's server unit, by where it laid strokes and what stands where it answered: what is so between them is so behind it.
+use Rattle.std.proofs.Common.{◌≡◌, ◌≢◌, ◌∙◌, ◌⊎◌, inl, inr, ℕ, suc, zero, ◌+◌, ◌/◌, ◌%◌, ◌<◌, ◌≤◌, ◌++◌, true, false, cond, List, [], ◌∷◌, Option, Some, None, IsSome, drop, length, refl, sym, take, take-append-drop, ap, subst, arith}
+use Rattle.std.specs.Prelude.{⊤}
+use Rattle.std.proofs.lemmas.List.{take-take}
+use Rattle.vio_num.specs.Entry.{srp_entry}
+use Rattle.vio_num.specs.declared.history.Grant.{Grant}
+use Rattle.crq_ring.specs.declared.rows.PipeRow.{PipeRow}
+use Rattle.crq_session.specs.EndState.{EndPlace, EndState}
+use Rattle.page_slots.specs.Page.{left_by}
+use Rattle.page_slots.specs.Stroke.{StrokeValue}
+use Rattle.srp_iu.specs.Grammar.{Spells}
+use Rattle.srp_iu.specs.declared.login.LoginReq.{LoginReq}
+use Rattle.srp_iu.specs.declared.response.Rsp.{Rsp}
+use Rattle.srp_iu.specs.declared.unit.Iu.{Iu}
+use Rattle.srp_iu.specs.declared.unit.Iu.TheVariants as units
+use Rattle.tce_window.specs.PortState.{PortState}
+use Rattle.tce_window.specs.Region.{region_byte}
+use Rattle.block_server.specs.Ends.{IsGrantable}
+use Rattle.block_server.specs.Ranges.{Known, WritesOn, known_in, seen_in}
+use Rattle.block_server.specs.Responses.{login_rejection, login_response}
+use Rattle.block_server.specs.Standing.{IsAnswerTo as IsAnswer, IsPutLast, LeavesOn, stood}
+use Rattle.block_server.specs.Talk.{AnswersRequest, PutsReplies, ServesNext, StandAt, Suits, Word, order_asked, session_rows, tag_asked, talk_of}
+use Rattle.block_server.specs.declared.request.Order.{Order}
+use Rattle.block_server.specs.declared.request.Order.TheVariants as orders
+use Rattle.block_server.specs.declared.request.Request.{Request}
+use Rattle.block_server.specs.declared.service.Outcome.{Outcome}
+use Rattle.block_server.specs.declared.service.Outcome.TheVariants as outcomes
+use Rattle.vscsi_client.specs.State.{ClientState}
+use Rattle.vscsi_client.specs.Units.{slot_address}
+use Rattle.vcpu_run.proofs.PlainData.{data_goes, data_stays, served_data}
+use Rattle.vcpu_run.specs.PlainTalk.{AnswerStands, Ask, Between, ClientStays, DataLies, InPhase, IsAnswerTo, IsAsk, IsFair, IsOwnWindow, IsPendingAs, KeepsSlots, SaysOfLogin, TalksPlainly, is_counted, is_grant, is_granted, is_login, is_logout}
+use Rattle.vcpu_run.proofs.PlainLeaves.{lays_keep, suits_grant}
+use Rattle.vcpu_run.proofs.PlainPages.{shown, shown_long, shown_on}
+use Rattle.vcpu_run.proofs.PlainServed.{LeavesElse, LeavesSlots, talk_behind}
+use Rattle.vcpu_run.proofs.PlainSlots.{slot_on}
+use Rattle.vcpu_run.proofs.PlainStands.{IsOnPage, shown_stand, stand_shown}
+use Rattle.vcpu_run.proofs.PlainTurns.{Turns, away_behind, begun_behind, calm_behind}
+use Rattle.vcpu_run.proofs.PlainUnits.{granted_more, rejected_more, response_more}
+
+-- ---- what an answer says
+
+-- An answer to a request, as its bytes say, whatever is behind them.
+record Says (granted : ℕ) (ask : Ask) (outcome : Outcome) (bytes : List ℕ) : Type 0 where
+  answer : Iu
+  spelled : (rest : List ℕ) → length (bytes ++ rest) ≤ 256 → Spells (bytes ++ rest) answer
+  suits : IsAnswerTo ask.iu answer
+  grants : is_granted answer ≡ is_grant outcome
+  credits : SaysOfLogin granted answer
+  few : length bytes ≤ 256
+
+asked_login : (iu : Iu) (login : LoginReq) → order_asked iu ≡ orders.Login login → iu ≡ units.LoginReq login
+asked_login (units.LoginReq request) login is = cc (is)
+asked_login (units.ILogout tag) login is = absurd (cc (is))
+asked_login (units.TskMgmt task) login is = absurd (cc (is))
+asked_login (units.Cmd command) login is = absurd (cc (is))
+asked_login iu login is = absurd (cc (is))
+
+served_suits : (iu : Iu) (r : Rsp) → is_counted iu ≡ true → r.tag ≡ tag_asked iu → IsAnswerTo iu (units.Rsp r)
+served_suits (units.TskMgmt task) r is tag = tag
+served_suits (units.Cmd command) r is tag = tag
+served_suits iu r isnt tag = absurd (cc (isnt))
+
+suits_counted : (current : ℕ) (iu : Iu) (row : ℕ) → (is_login iu ≡ true) ⊎ ((is_logout iu ≡ true) ⊎ (is_counted iu ≡ true)) → Suits current (order_asked iu) (outcomes.Served row)
+    → is_counted iu ≡ true
+suits_counted current (units.TskMgmt task) row kind suits = refl
+suits_counted current (units.Cmd command) row kind suits = refl
+suits_counted current (units.LoginReq request) row kind suits = absurd suits
+suits_counted current (units.ILogout tag) row kind suits = absurd suits
+suits_counted current iu row (inl login) suits = absurd (cc (login))
+suits_counted current iu row (inr (inl logout)) suits = absurd (cc (logout))
+suits_counted current iu row (inr (inr counted)) suits = counted
+
+-- a login that may be granted where none is on is rejected only while one is
+rejected_on : (current : ℕ) (ask : Ask) (login : LoginReq) → IsAsk ask → ask.iu ≡ units.LoginReq login → ¬ IsGrantable current login → 0 < current
+rejected_on current ask login is_ask is isnt = by current isnt
+  where
+    fair : IsGrantable 0 login
+    fair = subst IsFair is is_ask.fair
+
+    by : (current : ℕ) → ¬ IsGrantable current login → 0 < current
+    by zero isnt = absurd (isnt fair)
+    by (suc n) isnt = omega arith
+
+says_of : (current granted tag : ℕ) (ask : Ask) (order : Order) (outcome : Outcome) (bytes : List ℕ) → IsAsk ask → order ≡ order_asked ask.iu → tag ≡ ask.tag → 1 ≤ length bytes
+    → Suits current order outcome → IsAnswer current granted tag order outcome bytes → Says granted ask outcome bytes
+says_of current granted tag ask order (outcomes.Granted number) bytes is_ask is named some suits (login, of, canon) = record {
+  answer = units.LoginRsp (login_response login.tag granted);
+  spelled = λ rest fits. record { within = fits; unit = granted_more bytes rest (login_response login.tag granted) canon.unit.spells };
+  suits = subst (λ (iu : Iu). IsAnswerTo iu (units.LoginRsp (login_response login.tag granted))) (sym (asked_login ask.iu login (sym is ∙ of))) refl;
+  grants = refl;
+  credits = refl;
+  few = canon.within;
+}
+says_of current granted tag ask order outcomes.Rejected bytes is_ask is named some suits (login, of, rejects) = record {
+  answer = units.LoginRej (login_rejection login.tag rejects.reason);
+  spelled = λ rest fits. record { within = fits; unit = rejected_more bytes rest (login_rejection login.tag rejects.reason) rejects.bytes_are.unit.spells };
+  suits = subst (λ (iu : Iu). IsAnswerTo iu (units.LoginRej (login_rejection login.tag rejects.reason))) (sym asked) refl;
+  grants = refl;
+  credits = rejects.why.on (rejected_on current ask login is_ask asked (subst (λ (o : Order). Suits current o outcomes.Rejected) of suits));
+  few = rejects.bytes_are.within;
+}
+  where
+    asked : ask.iu ≡ units.LoginReq login
+    asked = asked_login ask.iu login (sym is ∙ of)
+says_of current granted tag ask order (outcomes.Served row) [] is_ask is named some suits answer = absurd (omega (arith, some))
+says_of current granted tag ask order (outcomes.Served row) (byte ∷ bytes) is_ask is named some suits answer = record {
+  answer = units.Rsp answer.0;
+  spelled = λ rest fits. record { within = fits; unit = response_more (byte ∷ bytes) rest answer.0 answer.1.unit.spells };
+  suits = served_suits ask.iu answer.0
+      (suits_counted current ask.iu row is_ask.kind (subst (λ (o : Order). Suits current o (outcomes.Served row)) is suits)) (answer.2.0 ∙ named ∙ sym is_ask.tag_is);
+  grants = refl;
+  credits = tt;
+  few = answer.1.within;
+}
+
+-- ---- it stands
+
+shown_front : (strokes : Option (List StrokeValue)) (start count len : ℕ) → IsSome strokes → len ≤ count → take len (shown_on strokes start count) ≡ shown_on strokes start len
+shown_front None start count len there less = absurd (cc (there))
+shown_front (Some strokes) start count len there less = take-take len count (drop start (left_by strokes)) less
+
+says_stands : (window : PortState) → IsOwnWindow window → (ask : Ask) (outcome : Outcome) (bytes : List ℕ) (long : ℕ) → IsAsk ask → (granted : ℕ) (says : Says granted ask outcome bytes)
+    → 1 ≤ length bytes → long ≤ 256 → shown window (slot_address ask.slot) (length bytes) ≡ bytes → AnswerStands granted window ask long outcome says.answer
+says_stands window own ask outcome bytes long is_ask granted says some few show = record {
+  few = few;
+  bytes = whole;
+  stand = shown_stand window own (slot_address ask.slot) whole
+      (subst (λ n. IsOnPage window (slot_address ask.slot) n) (sym size) on) (ap (λ (n : ℕ). shown window (slot_address ask.slot) n) size);
+  whole = size;
+  spelled = subst (λ (list : List ℕ). Spells list says.answer) (sym split) (says.spelled (drop (length bytes) whole) (omega (arith, size, ap length split)));
+  suits = says.suits;
+  grants = says.grants;
+  credits = says.credits;
+}
+  where
+    on : IsOnPage window (slot_address ask.slot) 256
+    on = slot_on window own ask.slot 256 is_ask.slot_is (omega arith) (omega arith)
+
+    page : ℕ
+    page = slot_address ask.slot / 4096
+
+    whole : List ℕ
+    whole = shown window (slot_address ask.slot) 256
+
+    size : length whole ≡ 256
+    size = shown_long (window.strokes page) (slot_address ask.slot % 4096) 256 (own.there page on.inside) on.fits
+
+    split : whole ≡ bytes ++ drop (length bytes) whole
+    split =
+        sym (take-append-drop (length bytes) whole)
+        ∙ ap (λ (list : List ℕ). list ++ drop (length bytes) whole)
+        (shown_front (window.strokes page) (slot_address ask.slot % 4096) 256 (length bytes) (own.there page on.inside) says.few ∙ show)
+
+-- ---- the length of the entry
+
+-- the last of a list
+last_one : (xs ys : List PipeRow) (a b : PipeRow) → xs ++ a ∷ [] ≡ ys ++ b ∷ [] → a ≡ b
+last_one [] [] a b e = cc (e)
+last_one [] (y ∷ []) a b e = absurd (cc (e))
+last_one [] (y ∷ z ∷ ys) a b e = absurd (cc (e))
+last_one (x ∷ []) [] a b e = absurd (cc (e))
+last_one (x ∷ z ∷ xs) [] a b e = absurd (cc (e))
+last_one (x ∷ xs) (y ∷ ys) a b e = last_one xs ys a b (tails x y (xs ++ a ∷ []) (ys ++ b ∷ []) e)
+  where
+    tails : (x y : PipeRow) (xs ys : List PipeRow) → x ∷ xs ≡ y ∷ ys → xs ≡ ys
+    tails x y xs ys e = cc (e)
+
+-- an entry that was put, and the one that was put last, are of one length
+same_long : (old new : EndState) (long other tag : ℕ) → PutsReplies old new (srp_entry long tag ∷ []) → old.place.partner_registered ≡ true → new.place ≡ old.place
+    → IsPutLast new (srp_entry other tag) → long ≡ other
+same_long old new long other tag put on place last =
+    let there = last (ap (λ (place : EndPlace). place.partner_registered) place ∙ on) in
+    let row : PipeRow = record { session = old.counts.partner_session; entry = srp_entry long tag } in
+    let rows : old.sent ++ row ∷ [] ≡ there.0 ++ record { session = there.1; entry = srp_entry other tag } ∷ [] =
+    sym (put ∙ ap (λ b. old.sent ++ cond b (session_rows old.counts.partner_session (srp_entry long tag ∷ [])) []) on) ∙ there.2 in
+    let high : 0x8001_0000_0000_0000 + long ≡ 0x8001_0000_0000_0000 + other =
+    ap (λ (r : PipeRow). r.entry.high) (last_one old.sent there.0 row (record { session = there.1; entry = srp_entry other tag }) rows) in
+    omega (arith, high)
+
+-- ---- the turn
+
+same_known : (old new : PortState) → Some (known_in new) ≡ Some (known_in old) → known_in new ≡ known_in old
+same_known old new e = cc (e)
+
+-- nothing was laid
+none_keeps : (old new : PortState) → IsOwnWindow old → IsOwnWindow new → known_in new ≡ known_in old → KeepsSlots (λ slot. ⊤) old new
+none_keeps old new own own' same slot bytes within spares whole stand =
+    shown_stand new own' (slot_address slot) bytes (slot_on new own' slot (length bytes) within (omega (arith, whole)) (omega (arith, whole)))
+    (ap (λ (k : Known). shown_on (k.strokes (slot_address slot / 4096)) (slot_address slot % 4096) (length bytes)) same
+    ∙ stand_shown old own (slot_address slot) bytes (slot_on old own slot (length bytes) within (omega (arith, whole)) (omega (arith, whole))) stand)
+
+not_out : (current : ℕ) (order : Order) (outcome : Outcome) → Suits current order outcome → order ≢ orders.Logout
+not_out current order outcome suits is = none outcome (subst (λ (o : Order). Suits current o outcome) is suits)
+  where
+    none : (outcome : Outcome) → Suits current orders.Logout outcome → ⊥
+    none (outcomes.Granted number) suits = suits
+    none outcomes.Rejected suits = suits
+    none (outcomes.Served row) suits = suits
+
+pub leaves_slots : (at at' : Between) (lines lines' : List Grant) (words : List Word) (turn : Turns at at' lines lines' words) → IsOwnWindow at.window → IsOwnWindow at'.window
+    → at'.window.place ≡ at.window.place → at.server.place.partner_registered ≡ true
+    → WritesOn (stood at.window) at.unit at.server words (seen_in false at.window) (seen_in false at'.window)
+    → LeavesOn at.unit at.server words at'.server at'.window
+    → LeavesSlots at.window at'.window turn.middle at'.unit turn.between.queue at'.server turn.added lines' turn.serves
+leaves_slots at at' lines lines' words turn own own' place on wrote left = by turn.serves
+  where
+    keeps : (request : Request) (rest : List Request) → turn.middle.pending.items ≡ request ∷ rest → (ask : Ask) → IsPendingAs request ask → IsAsk ask → DataLies at.window ask
+        → LeavesElse ask at.window at'.window
+    keeps request rest items ask pending is_ask its =
+        let lays = wrote.wrote (talk_of turn.middle) request rest turn.hears.heard items in
+        record {
+          slots = lays_keep at.window at'.window request ask own place pending is_ask
+              (λ a n goes. (data_goes at.window own ask its request.order pending.order a n goes).behind) lays;
+          tables = served_data at.window at'.window request ask own pending is_ask its lays;
+        }
+
+    stands : (request : Request) (rest : List Request) → turn.middle.pending.items ≡ request ∷ rest
+        → (one : AnswersRequest turn.middle at'.unit turn.between.queue at'.server turn.added lines' request) → (ask : Ask) → IsPendingAs request ask → IsAsk ask
+        → (answer : Iu) × AnswerStands turn.middle.logins.granted at'.window ask one.long one.outcome answer
+    stands request rest items one ask pending is_ask =
+        let leaves = left.leaves (talk_of turn.middle) request rest turn.hears.heard items (not_out turn.middle.logins.current request.order one.outcome one.suits) in
+        let says = says_of turn.middle.logins.current turn.middle.logins.granted request.tag ask request.order leaves.outcome leaves.bytes is_ask pending.order pending.tag
+        leaves.stands.0 leaves.suits leaves.answer in
+        let long : one.long ≡ length leaves.bytes =
+        same_long turn.between.queue at'.server one.long (length leaves.bytes) request.tag one.put.put.put
+        (ap (λ (place : EndPlace). place.partner_registered) turn.hears.place ∙ on) one.put.put.place leaves.put in
+        let few : length leaves.bytes ≤ 256 = says.few in
+        let at_slot : IsOnPage at'.window (slot_address ask.slot) (length leaves.bytes) =
+        slot_on at'.window own' ask.slot (length leaves.bytes) is_ask.slot_is leaves.stands.0 few in
+        let show : shown at'.window (slot_address ask.slot) (length leaves.bytes) ≡ leaves.bytes =
+        stand_shown at'.window own' (slot_address ask.slot) leaves.bytes at_slot
+        (subst (λ address. StandAt at'.window address leaves.bytes) pending.address
+        (leaves.stands.1 (subst (λ address. address % 4096 + length leaves.bytes ≤ 4096) (sym pending.address) at_slot.fits))) in
+        let known : AnswerStands turn.middle.logins.granted at'.window ask one.long leaves.outcome says.answer =
+        says_stands at'.window own' ask leaves.outcome leaves.bytes one.long is_ask turn.middle.logins.granted says leaves.stands.0 (omega (arith, long, few)) show in (
+          says.answer,
+          record {
+            few = known.few;
+            bytes = known.bytes;
+            stand = known.stand;
+            whole = known.whole;
+            spelled = known.spelled;
+            suits = known.suits;
+            credits = known.credits;
+            grants = known.grants ∙ suits_grant turn.middle.logins.current request.order leaves.outcome one.outcome leaves.suits one.suits;
+          },
+        )
+
+    by : (serves : ServesNext turn.middle at'.unit turn.between.queue at'.server turn.added lines')
+        → LeavesSlots at.window at'.window turn.middle at'.unit turn.between.queue at'.server turn.added lines' serves
+    by (inl none) =
+        let same = same_known at.window at'.window (wrote.none (talk_of turn.middle) turn.hears.heard none.none) in (
+          none_keeps at.window at'.window own own' same,
+          λ ask spares its. data_stays at.window at'.window ask (λ a of. ap (λ (k : Known). region_byte k.strokes a) same) its,
+        )
+    by (inr (request, rest, items, inl out)) = λ ask pending is_ask its. keeps request rest items ask pending is_ask its
+    by (inr (request, rest, items, inr one)) =
+        λ ask pending is_ask its. (keeps request rest items ask pending is_ask its, stands request rest items one ask pending is_ask)
+
+-- Behind a turn of the server unit what is so between them is so, and nothing is to come.
+pub plainly_served : (granted : ℕ) (at at' : Between) (lines lines' : List Grant) (words : List Word) → TalksPlainly granted at words → (turn : Turns at at' lines lines' words)
+    → ClientStays at at' → at'.window.place ≡ at.window.place
+    → WritesOn (stood at.window) at.unit at.server words (seen_in false at.window) (seen_in false at'.window)
+    → LeavesOn at.unit at.server words at'.server at'.window → TalksPlainly granted at' []
+plainly_served granted at at' lines lines' words talks turn stays place wrote left = record {
+  calm = calm_behind granted at at' lines lines' words talks.calm turn stays;
+  phase = by talks.phase;
+  tabled = ap (λ (s : ClientState). s.tabled) stays.client ∙ talks.tabled;
+}
+  where
+    by : InPhase granted at words → InPhase granted at' []
+    by (inl away) = inl (away_behind at at' lines lines' words away turn stays)
+    by (inr (inl begun)) = inr (inl (begun_behind granted at at' lines lines' words talks.calm begun turn stays))
+    by (inr (inr (asked, answers, talk))) =
+        inr (inr (talk_behind granted at at' lines lines' words asked answers talks.calm talk turn stays
+        (leaves_slots at at' lines lines' words turn talks.calm.usable stays.usable place (talks.calm.ends.server_sees.partner ∙ talk.registered) wrote left)))

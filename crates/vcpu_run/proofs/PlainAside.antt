@@ -1,0 +1,261 @@
+-- The lines of a plain client of which the replay says nothing: those of its own region, and those that tell of a command's data.
+use Rattle.std.proofs.Common.{◌≡◌, ◌∙◌, ℕ, ◌*◌, ◌/◌, ◌%◌, ◌<◌, ◌≤◌, ◌&&◌, nat_le, nat_lt, All, Bool, true, false, true≢false, List, [], ◌∷◌, Option, Some, None, Result, Ok, Err, IfOk, IfSome, IsSome, append-nil, drop, length, refl, sym, ap, subst, arith}
+use Rattle.std.specs.Prelude.{⊤}
+use Rattle.std.specs.List.{list_any}
+use Rattle.std.proofs.lemmas.Bool.Decides.{nat_tests}
+use Rattle.std.proofs.lemmas.List.Elements.{All-cons, All-head, All-nil, All-tail}
+use Rattle.vio_num.specs.declared.memory.NoMemory.{NoMemory}
+use Rattle.page_slots.specs.Stroke.{StrokeValue}
+use Rattle.crq_session.specs.EndState.{EndState}
+use Rattle.tce_window.specs.PortState.{OnlyReads, OnlyWrites, PortState}
+use Rattle.tce_window.specs.Strokes.{with_strokes}
+use Rattle.block_server.specs.Talk.{to_come}
+use Rattle.block_server.specs.declared.unit.Unit.{Unit}
+use Rattle.boot_text.specs.declared.verb.Verb.{Verb}
+use Rattle.boot_text.specs.declared.verb.Verb.TheVariants as verbs
+use Rattle.unit_region.specs.Answers.{AnswersWrite}
+use Rattle.unit_region.specs.Pattern.{pattern as filling}
+use Rattle.unit_region.specs.Marks.{LaysJust}
+use Rattle.unit_region.specs.declared.step.Step.{Step}
+use Rattle.unit_region.specs.declared.step.Step.TheVariants as steps
+use Rattle.unit_region.proofs.RegionTold.{filled_long}
+use Rattle.vio_trace.specs.declared.outcome.Outcome.{Outcome}
+use Rattle.vio_trace.specs.declared.outcome.Outcome.TheVariants as outcomes
+use Rattle.vscsi_client.specs.Spans.{meets, span_of}
+use Rattle.vscsi_client.specs.State.{ClientState}
+use Rattle.vscsi_client.specs.Units.{slot_address}
+use Rattle.vscsi_client.specs.declared.TheConstants.{DATA_START}
+use Rattle.vscsi_client.specs.declared.outgoing.Outgoing.{Outgoing}
+use Rattle.vscsi_client.specs.declared.outgoing.Span.{Span}
+use Rattle.vcpu_run.specs.PlainSteps.{AreReplayedAs, FollowsReplay, HasCome, HasToDo, IsAsReplayed, IsReplayedAs, Own, SparesTables, StepsOn, StepsPlainly, beside}
+use Rattle.vcpu_run.specs.PlainTalk.{Between, IsOwnWindow, KeepsTables, KeepsSlots, ServerStays, TalksPlainly, awaited, name_of}
+use Rattle.vcpu_run.specs.Replay.{Asked as Replayed, Replay, after_line, any_share, ends_as, range, share_page}
+use Rattle.vcpu_run.specs.declared.script.Progress.{Progress}
+use Rattle.vcpu_run.proofs.PlainAsking.{follows_still, none_anew}
+use Rattle.vcpu_run.proofs.PlainData.{data_same, span_data}
+use Rattle.vcpu_run.proofs.PlainPages.{shown_on}
+use Rattle.vcpu_run.proofs.PlainPuts.{LeavesWindow}
+use Rattle.vcpu_run.proofs.PlainShares.{any_same, or_false}
+use Rattle.vcpu_run.proofs.PlainSlots.{behind_apart, slot_on, write_keeps}
+use Rattle.vcpu_run.proofs.PlainStands.{IsOnPage, shown_stand, stand_shown}
+use Rattle.vcpu_run.proofs.PlainStays.{laid_own}
+use Rattle.vcpu_run.proofs.PlainStill.{all_true, awaited_spared, plainly_still, reads_data, reads_leave}
+
+-- The replay says nothing of a line, and is what it was behind it.
+pub record IsUntold (verb : Verb) : Type 0 where
+  pub come : (granted : ℕ) (p : Progress) (now : Replay) (at : Between) → HasCome granted verb p now at → FollowsReplay granted now at
+  pub goes : (granted : ℕ) (p : Progress) (now : Replay) (at : Between) → FollowsReplay granted now at → HasCome granted verb p now at
+  pub ends : (granted pages : ℕ) (now : Replay) → ends_as granted pages now verb ≡ None
+  pub after : (granted pages : ℕ) (now : Replay) → after_line granted pages now verb ≡ now
+
+pub fill_untold : (at len seed : ℕ) → IsUntold (verbs.Fill at len seed)
+fill_untold at len seed = record { come = λ granted p now between come. come; goes = λ granted p now between come. come; ends = λ granted pages now. refl; after = λ granted pages now. refl }
+
+pub poke_untold : (at : ℕ) (bytes : List ℕ) → IsUntold (verbs.Poke at bytes)
+poke_untold at bytes = record { come = λ granted p now between come. come; goes = λ granted p now between come. come; ends = λ granted pages now. refl; after = λ granted pages now. refl }
+
+pub peek_untold : (at len : ℕ) → IsUntold (verbs.Peek at len)
+peek_untold at len = record { come = λ granted p now between come. come; goes = λ granted p now between come. come; ends = λ granted pages now. refl; after = λ granted pages now. refl }
+
+pub data_untold : (tag : ℕ) → IsUntold (verbs.Data tag)
+data_untold tag = record { come = λ granted p now between come. come; goes = λ granted p now between come. come; ends = λ granted pages now. refl; after = λ granted pages now. refl }
+
+-- The slots are as they were, and the tables of what is spared.
+pub record LeavesSpared (spared : Outgoing → Type 0) (old new : PortState) : Type 0 where
+  pub slots : LeavesWindow (λ slot. ⊤) old new
+  pub tables : KeepsTables (λ ask. spared (name_of ask)) old new
+
+-- the client and its end are as they were, and so are the slots, and the tables of all that is outstanding
+pub untold_on : (spared : Outgoing → Type 0) (verb : Verb) (p p' : Progress) (old new : Own) (result : Result Step NoMemory) → IsUntold verb → new.client ≡ old.client
+    → new.end ≡ old.end → ((granted : ℕ) (now : Replay) (at : Between) → at.client ≡ old.client → SparesTables verb now → FollowsReplay granted now at → All spared (awaited at.client))
+    → IfOk result (λ step. IsOwnWindow old.window → LeavesSpared spared old.window new.window)
+    → (granted : ℕ) (unit : Unit) (server server' : EndState) (now : Replay) → SparesTables verb now → ServerStays (beside unit server old) (beside unit server' new)
+    → TalksPlainly granted (beside unit server old) [] → HasCome granted verb p now (beside unit server old) → IfOk result (StepsOn granted verb p' now (length old.client.rows) (beside unit server' new))
+untold_on spared verb p p' old new (Err memory) untold client end all leaves granted unit server server' now spares stays talks come = tt
+untold_on spared verb p p' old new (Ok step) untold client end all leaves granted unit server server' now spares stays talks come = record {
+  words = [];
+  anew = none_anew old.client new.client (ap (λ (s : ClientState). length s.rows) client);
+  talks = plainly_still spared granted at at' talks (record {
+    server = stays;
+    client = client;
+    sent = ap (λ (e : EndState). e.sent) end;
+    registered = registered;
+    kept = ap (λ (e : EndState). e.kept) end;
+    come = ap to_come end;
+    slots = ap (λ (e : EndState). e.place.own_slots) end;
+    window = (leaves talks.calm.usable).slots;
+    spares = all granted now at refl spares (untold.come granted p now at come);
+    tables = (leaves talks.calm.usable).tables;
+  });
+  replayed = by step;
+}
+  where
+    at : Between
+    at = beside unit server old
+
+    at' : Between
+    at' = beside unit server' new
+
+    registered : new.end.registered ≡ old.end.registered
+    registered = ap (λ (e : EndState). e.registered) end
+
+    follows : FollowsReplay granted now at'
+    follows = follows_still granted now at at' (untold.come granted p now at come) client registered
+
+    by : (step : Step) → IsAsReplayed granted verb p' now at' [] step
+    by (steps.Ends outcome) = (
+      subst (λ (o : Option Outcome). IfSome o (λ said. outcome ≡ said)) (sym (untold.ends granted at'.window.place.size now)) tt,
+      subst (λ (r : Replay). FollowsReplay granted r at') (sym (untold.after granted at'.window.place.size now)) follows,
+    )
+    by (steps.Waits did) = (
+      untold.goes granted p' now at' follows,
+      subst (λ (o : Option Outcome). IfSome o (λ said. HasToDo at' [])) (sym (untold.ends granted at'.window.place.size now)) tt,
+    )
+
+-- ---- what the line leaves of the window
+
+same_leaves : (old new : PortState) → IsOwnWindow old → OnlyWrites old new → ((p : ℕ) → new.strokes p ≡ old.strokes p) → LeavesWindow (λ slot. ⊤) old new
+same_leaves old new own only same = record { own = own'; keeps = keeps }
+  where
+    own' : IsOwnWindow new
+    own' = record {
+      values = λ e. ap (λ (values : ℕ → List ℕ). values e) only.values ∙ own.values e;
+      size = subst (λ n. DATA_START ≤ 4096 * n) (sym (ap (λ place. place.size) only.place)) own.size;
+      most = subst (λ n. n ≤ 256) (sym (ap (λ place. place.size) only.place)) own.most;
+      there = λ p below. subst IsSome (sym (same p)) (own.there p (subst (λ n. p < n) (ap (λ place. place.size) only.place) below));
+    }
+
+    keeps : KeepsSlots (λ slot. ⊤) old new
+    keeps slot bytes within spares whole stand =
+        let on : IsOnPage old (slot_address slot) (length bytes) = slot_on old own slot (length bytes) within (omega (arith, whole)) (omega (arith, whole)) in
+        shown_stand new own' (slot_address slot) bytes (slot_on new own' slot (length bytes) within (omega (arith, whole)) (omega (arith, whole)))
+        (ap (λ (now : Option (List StrokeValue)). shown_on now (slot_address slot % 4096) (length bytes)) (same (slot_address slot / 4096))
+        ∙ stand_shown old own (slot_address slot) bytes on stand)
+
+none_laid : (strokes : Option (List StrokeValue)) → with_strokes strokes [] ≡ strokes
+none_laid None = refl
+none_laid (Some strokes) = ap Some (append-nil strokes)
+
+-- the pages of a line's bytes
+abbrev OffTable : (at len : ℕ) → Outgoing → Type 0
+OffTable at len o = meets o.table (span_of at len) ≡ false
+
+same_spared : (old new : PortState) (spared : Outgoing → Type 0) → IsOwnWindow old → OnlyWrites old new → ((p : ℕ) → new.strokes p ≡ old.strokes p) → LeavesSpared spared old new
+same_spared old new spared own only same = record { slots = same_leaves old new own only same; tables = λ ask spares its. data_same old new same ask tt its }
+
+step_leaves : (old new : PortState) (at line : ℕ) (bytes : List ℕ) (step : Step) → DATA_START ≤ at → OnlyWrites old new
+    → LaysJust false old new line (Some (record { at = at; bytes = bytes })) (Ok step) → AnswersWrite false old new at bytes line step
+    → IsOwnWindow old → LeavesSpared (OffTable at (length bytes)) old new
+step_leaves old new at line bytes (steps.Ends outcomes.Done) behind only lays wrote own = record {
+  slots = record {
+    own = laid_own old new at line bytes own wrote only;
+    keeps = write_keeps (λ slot. ⊤) old new at line bytes own wrote only (λ slot within spares. behind_apart at (length bytes) slot within behind);
+  };
+  tables = λ ask spares its. span_data old new at line bytes wrote ask spares its;
+}
+step_leaves old new at line bytes (steps.Ends outcomes.Range) behind only lays wrote own =
+    same_spared old new (OffTable at (length bytes)) own only (λ p. lays refl p ∙ none_laid (old.strokes p))
+step_leaves old new at line bytes (steps.Ends outcome) behind only lays wrote own = absurd wrote
+step_leaves old new at line bytes (steps.Waits did) behind only lays wrote own =
+    same_spared old new (OffTable at (length bytes)) own only (λ p. lays refl p ∙ none_laid (old.strokes p))
+
+pub write_leaves : (own_shared : Bool) (old new : PortState) (at line : ℕ) (bytes : List ℕ) (result : Result Step NoMemory) → own_shared ≡ false
+    → (nat_le DATA_START at && true) ≡ true → OnlyWrites old new → LaysJust own_shared old new line (Some (record { at = at; bytes = bytes })) result
+    → IfOk result (AnswersWrite own_shared old new at bytes line) → IfOk result (λ step. IsOwnWindow old → LeavesSpared (OffTable at (length bytes)) old new)
+write_leaves false old new at line bytes (Ok step) alone behind only lays answers = step_leaves old new at line bytes step (low (nat_le DATA_START at) refl behind) only lays answers
+  where
+    low : (b : Bool) → nat_le DATA_START at ≡ b → (b && true) ≡ true → DATA_START ≤ at
+    low true is e = grind (arith, nat_tests, is)
+    low false is e = absurd (true≢false (sym e))
+write_leaves false old new at line bytes (Err memory) alone behind only lays answers = tt
+write_leaves true old new at line bytes result alone behind only lays answers = absurd (true≢false alone)
+
+pub read_leaves : (own_shared : Bool) (old new : PortState) (result : Result Step NoMemory) → own_shared ≡ false → OnlyReads own_shared old new
+    → IfOk result (λ step. IsOwnWindow old → LeavesSpared (λ o. ⊤) old new)
+read_leaves false old new (Ok step) alone reads = λ own. record { slots = reads_leave old new own reads; tables = reads_data old new reads }
+read_leaves false old new (Err memory) alone reads = tt
+read_leaves true old new result alone reads = absurd (true≢false alone)
+
+-- ---- the tables of what is outstanding
+
+meets_either : (a b : Span) → meets a b ≡ meets b a
+meets_either a b = by (nat_lt a.first b.end) (nat_lt b.first a.end)
+  where
+    by : (x y : Bool) → (x && y) ≡ (y && x)
+    by true true = refl
+    by true false = refl
+    by false true = refl
+    by false false = refl
+
+table_off : (at len : ℕ) (o : Outgoing) (asked : Replayed) → IsReplayedAs o asked → any_share (range at len ∷ []) (drop 1 asked.ranges) ≡ false → OffTable at len o
+table_off at len o asked is none =
+    is.table (span_of at len)
+    ∙ any_same (λ one. meets (span_of one.at one.len) (span_of at len)) (share_page (range at len)) (λ one. meets_either (span_of one.at one.len) (span_of at len)) (drop 1 asked.ranges)
+    ∙ sym (or_false (list_any (share_page (range at len)) (drop 1 asked.ranges))) ∙ none
+
+tables_off : (at len : ℕ) (outgoing : List Outgoing) (outstanding : List Replayed) → AreReplayedAs outgoing outstanding
+    → All (λ (asked : Replayed). any_share (range at len ∷ []) (drop 1 asked.ranges) ≡ false) outstanding → All (OffTable at len) outgoing
+tables_off at len [] [] are all = All-nil (OffTable at len)
+tables_off at len [] (asked ∷ outstanding) are all = absurd are
+tables_off at len (o ∷ outgoing) [] are all = absurd are
+tables_off at len (o ∷ outgoing) (asked ∷ outstanding) are all =
+    All-cons (OffTable at len) o outgoing
+    (table_off at len o asked are.0 (All-head (λ (one : Replayed). any_share (range at len ∷ []) (drop 1 one.ranges) ≡ false) asked outstanding all))
+    (tables_off at len outgoing outstanding are.1 (All-tail (λ (one : Replayed). any_share (range at len ∷ []) (drop 1 one.ranges) ≡ false) asked outstanding all))
+
+awaited_off : (at len granted : ℕ) (now : Replay) (between : Between) → All (λ (asked : Replayed). any_share (range at len ∷ []) (drop 1 asked.ranges) ≡ false) now.outstanding
+    → FollowsReplay granted now between → All (OffTable at len) (awaited between.client)
+awaited_off at len granted now between all follows =
+    awaited_spared between.client (span_of at len) (tables_off at len between.client.outgoing now.outstanding follows.credits.outstanding all)
+
+-- ---- each of these lines
+
+pub data_plainly : (own_shared : Bool) (tag : ℕ) (p : Progress) (old new : Own) (result : Result Step NoMemory) → own_shared ≡ false → new.client ≡ old.client → new.end ≡ old.end
+    → OnlyReads own_shared old.window new.window → StepsPlainly (verbs.Data tag) p p old new result
+data_plainly own_shared tag p old new result alone client end reads = λ plain.
+    untold_on (λ o. ⊤) (verbs.Data tag) p p old new result (data_untold tag) client end (λ granted now at same spares follows. all_true (awaited at.client))
+    (read_leaves own_shared old.window new.window result alone reads)
+
+pub data_steps : (own_shared : Bool) (tag : ℕ) (p : Progress) (old new : Own) (step : Step) → own_shared ≡ false → new.client ≡ old.client → new.end ≡ old.end
+    → OnlyReads own_shared old.window new.window → StepsPlainly (verbs.Data tag) p p old new (Ok step)
+data_steps own_shared tag p old new step = data_plainly own_shared tag p old new (Ok step)
+
+pub peek_plainly : (own_shared : Bool) (at len : ℕ) (p : Progress) (old new : Own) (result : Result Step NoMemory) → own_shared ≡ false → new.client ≡ old.client → new.end ≡ old.end
+    → OnlyReads own_shared old.window new.window → StepsPlainly (verbs.Peek at len) p p old new result
+peek_plainly own_shared at len p old new result alone client end reads = λ plain.
+    untold_on (λ o. ⊤) (verbs.Peek at len) p p old new result (peek_untold at len) client end (λ granted now between same spares follows. all_true (awaited between.client))
+    (read_leaves own_shared old.window new.window result alone reads)
+
+pub poke_plainly : (own_shared : Bool) (at line : ℕ) (bytes : List ℕ) (p : Progress) (old new : Own) (result : Result Step NoMemory) → own_shared ≡ false → new.client ≡ old.client
+    → new.end ≡ old.end → OnlyWrites old.window new.window → LaysJust own_shared old.window new.window line (Some (record { at = at; bytes = bytes })) result
+    → IfOk result (AnswersWrite own_shared old.window new.window at bytes line) → StepsPlainly (verbs.Poke at bytes) p p old new result
+poke_plainly own_shared at line bytes p old new result alone client end only lays answers = λ plain.
+    untold_on (OffTable at (length bytes)) (verbs.Poke at bytes) p p old new result (poke_untold at bytes) client end
+    (λ granted now between same spares follows. awaited_off at (length bytes) granted now between spares follows)
+    (write_leaves own_shared old.window new.window at line bytes result alone plain.behind only lays answers)
+
+pub fill_plainly : (own_shared : Bool) (at len seed line : ℕ) (p : Progress) (old new : Own) (result : Result Step NoMemory) → own_shared ≡ false → new.client ≡ old.client
+    → new.end ≡ old.end → OnlyWrites old.window new.window
+    → LaysJust own_shared old.window new.window line (Some (record { at = at; bytes = filling seed len })) result
+    → IfOk result (AnswersWrite own_shared old.window new.window at (filling seed len) line) → StepsPlainly (verbs.Fill at len seed) p p old new result
+fill_plainly own_shared at len seed line p old new result alone client end only lays answers = λ plain.
+    untold_on (OffTable at (length (filling seed len))) (verbs.Fill at len seed) p p old new result (fill_untold at len seed) client end
+    (λ granted now between same spares follows.
+    subst (λ (n : ℕ). All (OffTable at n) (awaited between.client)) (sym (filled_long seed len)) (awaited_off at len granted now between spares follows))
+    (write_leaves own_shared old.window new.window at line (filling seed len) result alone plain.behind only lays answers)
+
+-- no line of a plain client puts a value into an entry
+pub tce_plainly : (entry page : ℕ) (readable writable : Bool) (p p' : Progress) (old new : Own) (result : Result Step NoMemory)
+    → StepsPlainly (verbs.Tce entry page readable writable) p p' old new result
+tce_plainly entry page readable writable p p' old new result = λ plain. absurd (true≢false plain.no_entry)
+
+-- ---- a step of a line with such a verb
+
+pub steps_as : (verb kind : Verb) (p p' : Progress) (old new : Own) (result : Result Step NoMemory) → verb ≡ kind → StepsPlainly kind p p' old new result
+    → StepsPlainly verb p p' old new result
+steps_as verb kind p p' old new result is steps = subst (λ (v : Verb). StepsPlainly v p p' old new result) (sym is) steps
+
+-- a call that ran out of memory tells nothing
+pub steps_err : (verb : Verb) (p p' : Progress) (old new : Own) (result : Result Step NoMemory) (memory : NoMemory) → result ≡ Err memory → StepsPlainly verb p p' old new result
+steps_err verb p p' old new result memory is =
+    subst (λ (r : Result Step NoMemory). StepsPlainly verb p p' old new r) (sym is) (λ plain granted unit server server' now spares stays talks come. tt)

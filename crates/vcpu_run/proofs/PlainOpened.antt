@@ -1,0 +1,67 @@
+-- A pair as it is opened, as a plain client finds it.
+use Rattle.std.proofs.Common.{◌≡◌, ◌∙◌, ℕ, zero, suc, ◌*◌, ◌<◌, ◌≤◌, true, false, List, [], IsSome, length, replicate, refl, sym, ap, subst, arith}
+use Rattle.vio_num.specs.declared.names.UnitId.{UnitId}
+use Rattle.crq_ring.specs.Sessions.{of_session}
+use Rattle.crq_ring.specs.declared.rows.PipeRow.{PipeRow}
+use Rattle.crq_session.specs.EndState.{EndState}
+use Rattle.crq_session.specs.PlainState.{end_of, IsNewLink}
+use Rattle.crq_session.specs.declared.link.PlainLink.{PlainLink}
+use Rattle.tce_window.specs.PlainPort.{known_of}
+use Rattle.tce_window.specs.Window.{WindowValue, blank_page, strokes_at}
+use Rattle.vscsi_client.specs.State.{new_client}
+use Rattle.vcpu_run.specs.PlainPairs.{IsOpened}
+use Rattle.vcpu_run.specs.PlainTalk.{AreEnds, IsOwnWindow, TookNoMore}
+use Rattle.vcpu_run.specs.declared.driver.Driver.{Driver}
+use Rattle.vcpu_run.specs.declared.pair.Pair.{Pair}
+use Rattle.vcpu_run.proofs.Opened.{first_value, new_window, size_new}
+
+-- ---- the window
+
+blank_there : (n p : ℕ) → p < n → IsSome (strokes_at (replicate n blank_page) p)
+blank_there zero p less = absurd (omega (arith, less))
+blank_there (suc n) zero less = refl
+blank_there (suc n) (suc p) less = blank_there n p (omega (arith, less))
+
+own_new : (unit : UnitId) (pages : ℕ) (window : WindowValue) → window ≡ new_window unit pages → 14 ≤ pages → pages ≤ 256 → IsOwnWindow (known_of window)
+own_new unit pages window new least most =
+    let size : length window.pages ≡ pages = size_new unit pages window new in
+    record {
+      values = λ e. ap (λ (w : WindowValue). (known_of w).values e) new ∙ first_value e;
+      size = omega (arith, size, least);
+      most = omega (arith, size, most);
+      there = λ p less.
+          subst (λ (w : WindowValue). IsSome (strokes_at w.pages p)) (sym new) (blank_there pages p (omega (arith, size, less)));
+    }
+
+-- ---- the link
+
+took_none : (end : EndState) → end.taken ≡ [] → TookNoMore end
+unfolding of_session
+took_none end none =
+    let few : length (of_session end.last_session end.taken) ≡ 0 = ap (λ (rows : List PipeRow). length (of_session end.last_session rows)) none in
+    omega (arith, few)
+
+ends_new : (link : PlainLink) (slots_a slots_b : ℕ) → IsNewLink link slots_a slots_b → AreEnds (end_of [] link true) (end_of [] link false)
+ends_new link slots_a slots_b new = record {
+  server_sees = record { partner = refl; session = refl; received = refl; taken = refl; slots = refl };
+  own_sees = record { partner = refl; session = refl; received = refl; taken = refl; slots = refl };
+  server_took = took_none (end_of [] link true) new.first.queue.taken;
+  own_took = took_none (end_of [] link false) new.second.queue.taken;
+}
+
+-- ---- the pair
+
+pub opened_new : (pair : Pair) (driver : Driver) (unit server : UnitId) (pages queue_a queue_b : ℕ) → IsNewLink pair.link (256 * queue_a) (256 * queue_b) → 1 ≤ queue_a → 1 ≤ queue_b
+    → pair.window ≡ new_window unit pages → 14 ≤ pages → pages ≤ 256 → driver.unit ≡ unit → driver.client ≡ new_client unit server → IsOpened pair driver
+opened_new pair driver unit server pages queue_a queue_b new some_a some_b window least most unit_is client = record {
+  server = server;
+  client = client ∙ ap (λ (id : UnitId). new_client id server) (sym unit_is);
+  registered = new.second.unregistered;
+  kept = new.second.kept;
+  server_registered = new.first.unregistered;
+  server_kept = new.first.kept;
+  ends = ends_new pair.link (256 * queue_a) (256 * queue_b) new;
+  server_slots = omega (arith, new.first.queue.slots, some_a);
+  own_slots = omega (arith, new.second.queue.slots, some_b);
+  usable = own_new unit pages pair.window window least most;
+}

@@ -1,0 +1,153 @@
+-- A line of a plain client that resets: it frees the queue, and is a login then.
+use Rattle.std.proofs.Common.{◌≡◌, ◌≢◌, ◌∙◌, inl, inr, ℕ, ◌≤◌, false, List, [], ◌∷◌, Result, Ok, Err, arith, length, refl, sym, ap, ap₂, subst}
+use Rattle.std.specs.Prelude.{⊤}
+use Rattle.std.proofs.lemmas.List.Elements.{All-cons, All-nil}
+use Rattle.vio_num.specs.Entry.{partner_freed}
+use Rattle.vio_num.specs.declared.hypervisor.Moved.{Moved}
+use Rattle.vio_num.specs.declared.memory.NoMemory.{NoMemory}
+use Rattle.crq_ring.specs.Sessions.{of_session}
+use Rattle.crq_ring.specs.declared.rows.PipeRow.{PipeRow}
+use Rattle.crq_session.specs.Answered.{Frees, received_now, taken_now}
+use Rattle.crq_session.specs.EndState.{EndCounts, EndPlace, EndState, OnlyFrees, OnlyReserves}
+use Rattle.block_server.specs.Talk.{Word}
+use Rattle.block_server.specs.Talk.Word.{gone}
+use Rattle.block_server.specs.declared.unit.Unit.{Unit}
+use Rattle.boot_text.specs.declared.verb.Verb.TheVariants as verbs
+use Rattle.unit_region.specs.declared.step.Step.{Step}
+use Rattle.unit_region.specs.declared.step.Step.TheVariants as steps
+use Rattle.vscsi_client.specs.State.{ClientState, next_tag}
+use Rattle.vscsi_client.specs.Turned.{unlinked}
+use Rattle.vcpu_run.specs.EventsPut.{times_freed}
+use Rattle.vcpu_run.specs.PlainSteps.{FollowsReplay, HasCome, IsAsReplayed, IsNewWord, IsLoginReplayed, LogsInPlainly, MayLogIn, Own, StepsOn, StepsPlainly, beside, own_by}
+use Rattle.vcpu_run.specs.PlainTalk.{AreEnds, Between, ServerStays, TalksPlainly, TookNoMore, awaited}
+use Rattle.vcpu_run.specs.Replay.{Replay, forgotten}
+use Rattle.vcpu_run.specs.declared.script.Progress.{Progress}
+use Rattle.vcpu_run.specs.declared.script.Progress.TheVariants as progress
+use Rattle.vcpu_run.proofs.PlainData.{data_kept}
+use Rattle.vcpu_run.proofs.PlainReset.{freed_plainly}
+use Rattle.vcpu_run.proofs.PlainSlots.{keeps_same}
+use Rattle.vcpu_run.proofs.PlainStill.{all_true, plainly_still}
+use Rattle.vcpu_run.proofs.PlainTurns.{come_same}
+
+-- the queue was freed
+pub resets_on : (granted : ℕ) (now : Replay) (at at' : Between) (room : EndState) (did : Moved) → TalksPlainly granted at [] → FollowsReplay granted now at → OnlyReserves at.own room
+    → Frees false room partner_freed at'.own → OnlyFrees false room at'.own → at'.client ≡ unlinked at.client → at'.window ≡ at.window → ServerStays at at'
+    → StepsOn granted verbs.Reset progress.Freed now (length at.client.rows) at' (steps.Waits did)
+resets_on granted now at at' room did talks follows ready frees rest client window stays = record {
+  words = gone ∷ [];
+  talks = freed_plainly granted at at' room talks ready frees rest client window stays;
+  anew = record {
+    more = omega (arith, ap (λ (s : ClientState). length s.rows) client);
+    asked = All-cons (IsNewWord (length at.client.rows) (length at'.client.rows)) gone [] tt (All-nil (IsNewWord (length at.client.rows) (length at'.client.rows)));
+  };
+  replayed = (inl (record { registered = frees.freed; tag = ap next_tag client ∙ follows.tag }), inl (λ none. cc (none)));
+}
+
+-- a turn of a login is a step of its line
+pub login_steps : (p p' : Progress) (old new : Own) (result : Result Step NoMemory) → LogsInPlainly old new result → StepsPlainly verbs.Login p p' old new result
+login_steps p p' old new (Err memory) logs = λ plain granted unit server server' now spares stays talks come. tt
+login_steps p p' old new (Ok step) logs = λ plain granted unit server server' now spares stays talks come.
+    let on = logs granted unit server server' now stays talks (inl come) in
+    record { words = on.0; talks = on.1; anew = on.2; replayed = so granted now (beside unit server' new) on.0 step on.3 }
+  where
+    so : (granted : ℕ) (now : Replay) (at : Between) (words : List Word) (step : Step) → IsLoginReplayed granted now at words step → IsAsReplayed granted verbs.Login p' now at words step
+    so granted now at words (steps.Ends outcome) replayed = replayed
+    so granted now at words (steps.Waits did) replayed = replayed
+
+-- and of one that resets, behind the free
+pub renews_steps : (old new : Own) (result : Result Step NoMemory) → LogsInPlainly old new result → StepsPlainly verbs.Reset progress.Freed progress.Freed old new result
+renews_steps old new (Err memory) logs = λ plain granted unit server server' now spares stays talks come. tt
+renews_steps old new (Ok step) logs = λ plain granted unit server server' now spares stays talks come.
+    let on = logs granted unit server server' (forgotten now) stays talks (may granted now (beside unit server old) come) in
+    record { words = on.0; talks = on.1; anew = on.2; replayed = so granted now (beside unit server' new) on.0 step on.3 }
+  where
+    may : (granted : ℕ) (now : Replay) (at : Between) → HasCome granted verbs.Reset progress.Freed now at → MayLogIn granted (forgotten now) at
+    may granted now at (inl freed) = inr (record { registered = freed.registered; tag = freed.tag }, refl, refl)
+    may granted now at (inr logging) = inl logging
+
+    so : (granted : ℕ) (now : Replay) (at : Between) (words : List Word) (step : Step) → IsLoginReplayed granted (forgotten now) at words step
+        → IsAsReplayed granted verbs.Reset progress.Freed now at words step
+    so granted now at words (steps.Ends outcome) replayed = replayed
+    so granted now at words (steps.Waits did) replayed = (inr replayed.0, replayed.1)
+
+-- before the free the line is as the replay
+fresh_follows : (granted : ℕ) (p : Progress) (now : Replay) (at : Between) → p ≢ progress.Freed → HasCome granted verbs.Reset p now at → FollowsReplay granted now at
+fresh_follows granted progress.Freed now at fresh come = absurd (fresh refl)
+fresh_follows granted progress.Fresh now at fresh come = come
+fresh_follows granted (progress.Took taken) now at fresh come = come
+fresh_follows granted (progress.Posted done) now at fresh come = come
+
+pub unfreed : (p : Progress) → times_freed p ≡ 0 → p ≢ progress.Freed
+unfreed p none freed = absurd (omega (arith, none, ap times_freed freed))
+
+pub resets_plainly : (p : Progress) (old new : Own) (room : EndState) (did : Moved) → p ≢ progress.Freed → OnlyReserves old.end room → Frees false room partner_freed new.end
+    → OnlyFrees false room new.end → new.client ≡ unlinked old.client → new.window ≡ old.window → StepsPlainly verbs.Reset p progress.Freed old new (Ok (steps.Waits did))
+resets_plainly p old new room did fresh ready frees rest client window = λ plain granted unit server server' now spares stays talks come.
+    resets_on granted now (beside unit server old) (beside unit server' new) room did talks (fresh_follows granted p now (beside unit server old) fresh come) ready frees rest client window stays
+
+-- where room was made all is as it was
+ends_room : (server old new : EndState) → AreEnds server old → OnlyReserves old new → AreEnds server new
+ends_room server old new ends ready = record {
+  server_sees = record {
+    partner = ends.server_sees.partner ∙ sym ready.registered;
+    session = ends.server_sees.session ∙ sym ready.last_session;
+    received = ap (λ (p : EndPlace). p.received) ready.place ∙ ends.server_sees.received;
+    taken = ends.server_sees.taken ∙ sym ready.taken;
+    slots = ends.server_sees.slots ∙ sym (ap (λ (p : EndPlace). p.own_slots) ready.place);
+  };
+  own_sees = record {
+    partner = ap (λ (p : EndPlace). p.partner_registered) ready.place ∙ ends.own_sees.partner;
+    session = ap (λ (c : EndCounts). c.partner_session) ready.counts ∙ ends.own_sees.session;
+    received = ends.own_sees.received ∙ sym ready.sent;
+    taken = ap (λ (p : EndPlace). p.partner_taken) ready.place ∙ ends.own_sees.taken;
+    slots = ap (λ (p : EndPlace). p.partner_slots) ready.place ∙ ends.own_sees.slots;
+  };
+  server_took = ends.server_took;
+  own_took = took;
+}
+  where
+    took : TookNoMore new
+    took = subst (λ (n : ℕ). n ≤ length (received_now new)) (sym (ap₂ (λ q (rows : List PipeRow). length (of_session q rows)) ready.last_session ready.taken))
+        (subst (λ (n : ℕ). length (taken_now old) ≤ n)
+        (sym (ap₂ (λ q (rows : List PipeRow). length (of_session q rows)) ready.last_session (ap (λ (p : EndPlace). p.received) ready.place))) ends.own_took)
+
+room_talks : (granted : ℕ) (unit : Unit) (server : EndState) (old : Own) (room : EndState) → OnlyReserves old.end room → TalksPlainly granted (beside unit server old) []
+    → TalksPlainly granted (beside unit server (own_by old.client room old.window)) []
+room_talks granted unit server old room ready talks =
+    plainly_still (λ o. ⊤) granted (beside unit server old) (beside unit server (own_by old.client room old.window)) talks
+    (record {
+      server = record {
+        unit = refl;
+        session = refl;
+        registered = refl;
+        kept = refl;
+        taken = refl;
+        slots = refl;
+        ends = ends_room server old.end room talks.calm.ends ready;
+      };
+      client = refl;
+      sent = ready.sent;
+      registered = ready.registered;
+      kept = ready.kept;
+      come = come_same old.end room ready.place ready.last_session ready.taken;
+      slots = ap (λ (p : EndPlace). p.own_slots) ready.place;
+      window = record { own = talks.calm.usable; keeps = keeps_same old.window old.window refl };
+      spares = all_true (awaited old.client);
+      tables = data_kept old.window old.window refl;
+    })
+
+-- a queue that is not registered has no login to forget
+pub resets_unregistered : (p : Progress) (old new : Own) (room : EndState) (result : Result Step NoMemory) → p ≢ progress.Freed → old.end.registered ≡ false
+    → OnlyReserves old.end room → LogsInPlainly (own_by old.client room old.window) new result → StepsPlainly verbs.Reset p progress.Freed old new result
+resets_unregistered p old new room result fresh off ready logs = λ plain granted unit server server' now spares stays talks come.
+    renews_steps (own_by old.client room old.window) new result logs plain granted unit server server' now spares
+    (record {
+      unit = stays.unit;
+      session = stays.session;
+      registered = stays.registered;
+      kept = stays.kept;
+      taken = stays.taken;
+      slots = stays.slots;
+      ends = stays.ends;
+    }) (room_talks granted unit server old room ready talks)
+    (inl (record { registered = ready.registered ∙ off; tag = (fresh_follows granted p now (beside unit server old) fresh come).tag }))

@@ -1,0 +1,65 @@
+-- The answers that a plain client takes behind its last line, one after the other.
+use Rattle.std.proofs.Common.{◌≡◌, ◌∙◌, ℕ, [], Result, Err, refl, subst, sym}
+use Rattle.vio_num.specs.declared.hypervisor.Moved.{Moved}
+use Rattle.vio_num.specs.declared.memory.NoMemory.{NoMemory}
+use Rattle.crq_session.specs.EndState.{EndState}
+use Rattle.block_server.specs.declared.unit.Unit.{Unit}
+use Rattle.vcpu_run.specs.PlainSteps.{FollowsReplay, LeavesTook, Own, RestsPlainly, TakesEntries, TakesPlainly, beside}
+use Rattle.vcpu_run.specs.PlainTalk.{Between, ServerStays, TalksPlainly}
+use Rattle.vcpu_run.specs.Replay.{Replay, answered}
+use Rattle.vcpu_run.specs.declared.taking.Took.{Took}
+use Rattle.vcpu_run.specs.declared.taking.Took.TheVariants as tooks
+use Rattle.vcpu_run.proofs.PlainAsking.{follows_still, stood_still}
+use Rattle.vcpu_run.proofs.PlainCounting.{entries_on, none_yet}
+use Rattle.vcpu_run.proofs.PlainMiddle.{KeptThere, kept_there, seeing}
+
+-- What it has taken so far.
+pub record RestsSoFar (old new : Own) : Type 0 where
+  pub entries : TakesEntries old.end new.end
+  pub leaves : (granted : ℕ) (unit : Unit) (server server' : EndState) (now : Replay) → ServerStays (beside unit server old) (beside unit server' new)
+      → TalksPlainly granted (beside unit server old) [] → FollowsReplay granted now (beside unit server old)
+      → TalksPlainly granted (beside unit server' new) [] × (later : Replay) × (later.tag ≡ now.tag) × FollowsReplay granted later (beside unit server' new)
+
+-- nothing
+pub rests_none : (old : Own) → RestsSoFar old old
+rests_none old = record {
+  entries = (none_yet 0 0 old).entries;
+  leaves = λ granted unit server server' now stays talks follows. (
+    stood_still (beside unit server old) (beside unit server' old) granted talks stays refl refl refl,
+    now,
+    refl,
+    follows_still granted now (beside unit server old) (beside unit server' old) follows refl refl,
+  );
+}
+
+later_on : (granted : ℕ) (now : Replay) (took : Took) (at : Between) → LeavesTook granted now took at → (later : Replay) × (later.tag ≡ now.tag) × FollowsReplay granted later at
+later_on granted now tooks.Answer at left = (answered 1 now, refl, left.1)
+later_on granted now tooks.Nothing at left = (now, refl, left.0)
+later_on granted now tooks.Other at left = absurd left
+later_on granted now tooks.Lost at left = absurd left
+later_on granted now tooks.InUse at left = absurd left
+
+-- one entry more
+pub rests_more : (old middle new : Own) (took : Took) → RestsSoFar old middle → TakesPlainly took middle new → RestsSoFar old new
+rests_more old middle new took far takes = record { entries = entries_on old.end middle.end new.end far.entries takes.entries; leaves = leaves }
+  where
+    leaves : (granted : ℕ) (unit : Unit) (server server' : EndState) (now : Replay) → ServerStays (beside unit server old) (beside unit server' new)
+        → TalksPlainly granted (beside unit server old) [] → FollowsReplay granted now (beside unit server old)
+        → TalksPlainly granted (beside unit server' new) [] × (later : Replay) × (later.tag ≡ now.tag) × FollowsReplay granted later (beside unit server' new)
+    leaves granted unit server server' now stays talks follows = (one.0, later.0, later.1 ∙ so_far.2, later.2)
+      where
+        kept : KeptThere unit server server' old middle new
+        kept = kept_there unit server server' old middle new takes.entries stays
+
+        so_far : TalksPlainly granted (beside unit (seeing server' middle.end) middle) [] × (later : Replay) × (later.tag ≡ now.tag) × FollowsReplay granted later (beside unit (seeing server' middle.end) middle)
+        so_far = far.leaves granted unit server (seeing server' middle.end) now kept.before talks follows
+
+        one : TalksPlainly granted (beside unit server' new) [] × LeavesTook granted so_far.1 took (beside unit server' new)
+        one = takes.leaves granted unit (seeing server' middle.end) server' so_far.1 kept.behind so_far.0 so_far.3
+
+        later : (later : Replay) × (later.tag ≡ so_far.1.tag) × FollowsReplay granted later (beside unit server' new)
+        later = later_on granted so_far.1 took (beside unit server' new) one.1
+
+-- nor does a call tell anything that ran out of memory
+pub rests_err : (old new : Own) (result : Result Moved NoMemory) (memory : NoMemory) → result ≡ Err memory → RestsPlainly old new result
+rests_err old new result memory is = subst (λ (r : Result Moved NoMemory). RestsPlainly old new r) (sym is) (λ granted unit server server' now stays talks follows. tt)

@@ -1,0 +1,100 @@
+-- The slots of a plain client's window: which ranges they are, what stands in them behind a write elsewhere, and what an entry of a unit says.
+use Rattle.std.proofs.Common.{◌≡◌, ◌≢◌, ◌∙◌, ◌⊎◌, inl, inr, ℕ, zero, suc, ◌+◌, ◌-◌, ◌*◌, ◌/◌, ◌%◌, ◌^◌, ◌<◌, ◌≤◌, ◌==◌, ◌++◌, ◌&&◌, Bool, true, false, List, [], ◌∷◌, length, refl, sym, ap, ap₂, subst, arith}
+use Rattle.std.specs.Prelude.{⊤}
+use Rattle.std.proofs.lemmas.Bool.{cases_lt}
+use Rattle.byteorder.specs.Numbers.{big_number-reads_back}
+use Rattle.vio_num.specs.Entry.{entry_format, first_byte, is_srp_entry, iu_address, iu_length, srp_entry}
+use Rattle.srp_iu.specs.Grammar.{Canon}
+use Rattle.srp_iu.specs.declared.unit.Iu.{Iu}
+use Rattle.tce_window.specs.Pieces.{IsUsable}
+use Rattle.tce_window.specs.PortState.{OnlyWrites, PortState, Writes}
+use Rattle.tce_window.specs.declared.answers.Right.TheVariants.{Read}
+use Rattle.block_server.specs.Talk.{SaysRequest, SaysWord, StandAt}
+use Rattle.block_server.specs.Talk.Word.{asks}
+use Rattle.vscsi_client.specs.Ports.{Lays, LaysAll, Write, unit_write}
+use Rattle.vscsi_client.specs.Units.{slot_address}
+use Rattle.vscsi_client.specs.declared.TheConstants.{DATA_START, SLOTS}
+use Rattle.vcpu_run.specs.PlainTalk.{Ask, IsAsk, IsOwnWindow, KeepsSlots, word_of}
+use Rattle.vcpu_run.proofs.PlainPages.{shown}
+use Rattle.vcpu_run.proofs.PlainStands.{IsOnPage, shown_stand, slot_usable, stand_shown}
+use Rattle.vcpu_run.proofs.PlainStays.{Apart, laid_apart, laid_own, laid_shown}
+use Rattle.vcpu_run.proofs.PlainUnits.{canon_some, canon_spells}
+
+-- ---- ranges
+
+-- so many bytes of a slot lie on one page of the region
+pub slot_on : (window : PortState) → IsOwnWindow window → (slot len : ℕ) → slot ≤ SLOTS → 1 ≤ len → len ≤ 256 → IsOnPage window (slot_address slot) len
+slot_on window own slot len within some few = record {
+  some = some;
+  fits = omega (arith, few);
+  inside = omega (arith, within, own.size);
+}
+
+-- two slots have no byte in common, nor has what lies behind them
+pub slots_apart : (slot other n : ℕ) → slot ≢ other → n ≤ 256 → Apart (slot_address slot) n (slot_address other) 256
+slots_apart slot other n differ few = by (cases_lt slot other) (cases_lt other slot)
+  where
+    by : (slot < other) ⊎ (other ≤ slot) → (other < slot) ⊎ (slot ≤ other) → Apart (slot_address slot) n (slot_address other) 256
+    by (inl less) more = inl (omega (arith, less, few))
+    by (inr least) (inl more) = inr (omega (arith, more))
+    by (inr least) (inr most) = absurd (differ (omega (arith, least, most)))
+
+pub behind_apart : (at n slot : ℕ) → slot ≤ SLOTS → DATA_START ≤ at → Apart at n (slot_address slot) 256
+behind_apart at n slot within behind = inr (omega (arith, within, behind))
+
+-- ---- what stays
+
+-- the slots stay that are apart from a write
+pub write_keeps : (spared : ℕ → Type 0) (old new : PortState) (at mark : ℕ) (bytes : List ℕ) → IsOwnWindow old → Writes false old at bytes mark new → OnlyWrites old new
+    → ((slot : ℕ) → slot ≤ SLOTS → spared slot → Apart at (length bytes) (slot_address slot) 256) → KeepsSlots spared old new
+write_keeps spared old new at mark bytes own wrote only apart slot list within spares whole stand =
+    let on : IsOnPage old (slot_address slot) (length list) = slot_on old own slot (length list) within (omega (arith, whole)) (omega (arith, whole)) in
+    let own' : IsOwnWindow new = laid_own old new at mark bytes own wrote only in
+    shown_stand new own' (slot_address slot) list (slot_on new own' slot (length list) within (omega (arith, whole)) (omega (arith, whole)))
+    (laid_apart old new at mark bytes (slot_address slot) (length list) wrote on.some on.fits
+    (subst (λ n. Apart at (length bytes) (slot_address slot) n) (sym whole) (apart slot within spares))
+    ∙ stand_shown old own (slot_address slot) list on stand)
+
+pub keeps_on : (spared : ℕ → Type 0) (a b c : PortState) → KeepsSlots (λ slot. ⊤) a b → KeepsSlots spared b c → KeepsSlots spared a c
+keeps_on spared a b c first next slot bytes within spares whole stand = next slot bytes within spares whole (first slot bytes within tt whole stand)
+
+pub keeps_same : (old new : PortState) → new ≡ old → KeepsSlots (λ slot. ⊤) old new
+keeps_same old new same slot bytes within spares whole stand = subst (λ (w : PortState). StandAt w (slot_address slot) bytes) (sym same) stand
+
+-- ---- what the entry of a unit says
+
+usable_front : (window : PortState) → IsOwnWindow window → (slot len : ℕ) → slot ≤ SLOTS → 1 ≤ len → len ≤ 256
+    → IsUsable window.values Read window.place.size (slot_address slot) len
+usable_front window own slot len within some few = λ e from below. slot_usable window own Read slot within e from (omega (arith, below, few, some))
+
+pub entry_long : (n low : ℕ) → n ≤ 256 → iu_length (srp_entry n low) ≡ n
+entry_long n low few = omega (arith, few)
+
+pub entry_srp : (n low : ℕ) → n ≤ 256 → is_srp_entry (srp_entry n low) ≡ true
+entry_srp n low few =
+    let first : first_byte (srp_entry n low) ≡ 0x80 = omega (arith, few) in
+    let format : entry_format (srp_entry n low) ≡ 0x01 = omega (arith, few) in
+    ap₂ (λ (f g : ℕ). f == 0x80 && g == 0x01) first format
+
+entry_address : (n low : ℕ) → low < 256 ^ 8 → iu_address (srp_entry n low) ≡ low
+entry_address n low few = big_number-reads_back 8 low [] few
+
+-- the unit that was written into its slot is what the entry asks
+pub unit_said : (window : PortState) (ask : Ask) → IsOwnWindow window → IsAsk ask → shown window (slot_address ask.slot) (length ask.bytes) ≡ ask.bytes
+    → SaysWord window (srp_entry (length ask.bytes) (slot_address ask.slot)) (word_of ask)
+unit_said window ask own is show = record {
+  srp = entry_srp (length ask.bytes) (slot_address ask.slot) few;
+  address_is = entry_address (length ask.bytes) (slot_address ask.slot) (omega (arith, is.slot_is));
+  long = entry_long (length ask.bytes) (slot_address ask.slot) few;
+  some = some;
+  few = few;
+  may = usable_front window own ask.slot (length ask.bytes) is.slot_is some few;
+  stand = shown_stand window own (slot_address ask.slot) ask.bytes (slot_on window own ask.slot (length ask.bytes) is.slot_is some few) show;
+  spelled = canon_spells ask.bytes ask.iu is.canonical;
+}
+  where
+    some : 1 ≤ length ask.bytes
+    some = canon_some ask.bytes ask.iu is.canonical
+
+    few : length ask.bytes ≤ 256
+    few = is.canonical.within

@@ -1,0 +1,143 @@
+-- What a gathered trace says of plain clients: each did exactly what its script says.
+use Rattle.std.proofs.Common.{◌≡◌, ◌≢◌, ◌∙◌, inl, inr, ℕ, ◌==◌, true, All, List, [], ◌∷◌, IsSomeAnd, drop, filter, get_or, length, map, slice_get, refl, sym, ap, subst, arith}
+use Rattle.std.proofs.lemmas.List.{drop_all, get_or-map, length-map}
+use Rattle.std.specs.List.{AllPairs, flat_map}
+use Rattle.vio_num.specs.declared.entry.Entry.{Entry}
+use Rattle.vio_num.specs.declared.history.Grant.{Grant}
+use Rattle.vio_num.specs.declared.history.Served.{Served}
+use Rattle.vio_num.specs.declared.names.UnitId.{UnitId}
+use Rattle.crq_session.specs.Answered.{received_now, taken_now}
+use Rattle.crq_session.specs.PlainState.{end_of}
+use Rattle.tce_window.specs.PortState.{PortState}
+use Rattle.rdma_copy.specs.declared.copy.CopyRecord.{CopyRecord}
+use Rattle.block_server.specs.Makers.{same_unit}
+use Rattle.block_server.specs.RowsOn.{row_tag}
+use Rattle.block_server.specs.Talk.{HearsAll, SayWords, Word, talk_of, to_come}
+use Rattle.block_server.specs.declared.unit.Unit.{Unit}
+use Rattle.boot_text.specs.Sound.{IsServer}
+use Rattle.boot_text.specs.declared.plan.Line.{Line}
+use Rattle.boot_text.specs.declared.plan.Partition.{Partition}
+use Rattle.boot_text.specs.declared.plan.UnitPlan.TheVariants as units
+use Rattle.lan_script.specs.Units.{LanValue}
+use Rattle.lan_script.specs.declared.rows.LanRows.{LanRows}
+use Rattle.vio_trace.specs.declared.rows.LogRow.{LogRow}
+use Rattle.vcpu_run.specs.Credited.{ended_by}
+use Rattle.vcpu_run.specs.Gathered.{HasLawfulQueue, logs_of, trace_of}
+use Rattle.vcpu_run.specs.Links.{IsEmptied, link_state}
+use Rattle.vcpu_run.specs.Machines.{AreScripts, IsOfPlan, server_id}
+use Rattle.vcpu_run.specs.PlainClients.{HaveOtherTags, IsPlainClient, PlainClientsAreScripted}
+use Rattle.vcpu_run.specs.PlainPairs.{EndByClient, IsPlainPair, IsReadyPair, ServerBooks, between_of, books_of}
+use Rattle.vcpu_run.specs.PlainRows.{tags_by}
+use Rattle.vcpu_run.specs.PlainRuns.{ArePlain}
+use Rattle.vcpu_run.specs.PlainScripts.{StandsPlainly}
+use Rattle.vcpu_run.specs.Ports.{unit_of}
+use Rattle.vcpu_run.specs.Received.{AreAtRest}
+use Rattle.vcpu_run.specs.Replay.{IsReplayed, before_lines}
+use Rattle.vcpu_run.specs.Scripts.{are_servers}
+use Rattle.vcpu_run.specs.Settled.{script_of}
+use Rattle.vcpu_run.specs.Shown.{pages_at}
+use Rattle.vcpu_run.specs.Units.{seats_of}
+use Rattle.vcpu_run.specs.declared.pair.Pair.{Pair}
+use Rattle.vcpu_run.specs.declared.script.Script.{Script}
+use Rattle.vcpu_run.proofs.Driving.{some_is}
+use Rattle.vcpu_run.proofs.Listed.{held}
+use Rattle.vcpu_run.proofs.RecordLaws.{lines_in}
+use Rattle.vcpu_run.proofs.RefusalsTold.{client_pages, own_records}
+use Rattle.vcpu_run.proofs.Settling.{emptied, script_at, servers_home}
+
+-- ---- no two rows of the server unit have one tag
+
+tags_apart : (rows : List Served) → AllPairs (λ a b. a ≢ b) (map row_tag rows) → AllPairs HaveOtherTags rows
+tags_apart rows pairs i j d less within same =
+    let first : get_or (map row_tag rows) i (row_tag d) ≡ row_tag (get_or rows i d) = get_or-map row_tag rows i d (row_tag d) (omega (arith, less, within)) in
+    let next : get_or (map row_tag rows) j (row_tag d) ≡ row_tag (get_or rows j d) = get_or-map row_tag rows j d (row_tag d) within in
+    pairs i j (row_tag d) less (omega (arith, within, length-map rows row_tag)) (first ∙ (same ∙ sym next))
+
+none_apart : (tags : List ℕ) → tags ≡ [] → AllPairs (λ a b. a ≢ b) tags
+none_apart tags none i j d less within same =
+    let few : length tags ≡ 0 = ap length none in
+    omega (arith, within, few)
+
+-- ---- nothing is to come once all was taken
+
+no_words : (window : PortState) (entries : List Entry) (words : List Word) → entries ≡ [] → SayWords window entries words → words ≡ []
+no_words window entries [] none says = refl
+no_words window entries (word ∷ words) none says = absurd (subst (λ (list : List Entry). SayWords window list (word ∷ words)) none says)
+
+emptied_come : (pair : Pair) → IsEmptied (link_state pair.link).server → to_come (end_of [] pair.link true) ≡ []
+emptied_come pair empty =
+    let same : received_now (end_of [] pair.link true) ≡ taken_now (end_of [] pair.link true) = empty.taken in
+    ap (drop (length (taken_now (end_of [] pair.link true)))) same ∙ drop_all (length (taken_now (end_of [] pair.link true))) (taken_now (end_of [] pair.link true)) (omega arith)
+
+-- ---- its logins and its rows
+
+-- What a pair has of its server unit: the logins end by the client alone, and no two rows have one tag.
+record HasBooks (unit : UnitId) (lines : List Grant) (rows : List Served) : Type 0 where
+  ends : EndByClient unit lines
+  tags : AllPairs HaveOtherTags (filter (λ row. same_unit row.unit unit) rows)
+
+books_plain : (granted home k : ℕ) (books : ServerBooks) (words : List Word) (pair : Pair) → IsEmptied (link_state pair.link).server → IsPlainPair granted home books k words pair
+    → HasBooks (server_id home k) books.lines books.rows
+books_plain granted home k books words pair empty is =
+    let none : words ≡ [] = no_words (between_of is.unit is.driver pair).window (to_come (end_of [] pair.link true)) words (emptied_come pair empty) is.talks.calm.said in
+    let heard : HearsAll (talk_of is.unit) (length (taken_now (end_of [] pair.link true))) words (talk_of is.unit) =
+    subst (λ (list : List Word). HearsAll (talk_of is.unit) (length (taken_now (end_of [] pair.link true))) list (talk_of is.unit)) (sym none) refl in
+    record { ends = is.lines; tags = tags_apart (filter (λ (row : Served). same_unit row.unit (server_id home k)) books.rows) (is.tags (talk_of is.unit) heard).apart }
+
+books_ready : (granted home k : ℕ) (books : ServerBooks) (pair : Pair) → IsEmptied (link_state pair.link).server → IsReadyPair granted home books k pair
+    → HasBooks (server_id home k) books.lines books.rows
+books_ready granted home k books pair empty (inl (words, is)) = books_plain granted home k books words pair empty is
+books_ready granted home k books pair empty (inr new) = record {
+  ends = new.lines;
+  tags = tags_apart (filter (λ (row : Served). same_unit row.unit (server_id home k)) books.rows) (none_apart (tags_by (server_id home k) books.rows) new.tags);
+}
+
+-- ---- the trace
+
+pub scripted_are : (pairs : List Pair) (scripts : List Script) (lan : LanValue) (lan_rows : LanRows) (history : List Served) (grants : List Grant) (copies : List CopyRecord) (partitions : List Partition)
+    → AreScripts pairs lan.seats scripts → All (HasLawfulQueue pairs) (seats_of scripts) → IsOfPlan partitions pairs scripts lan.seats → AreAtRest copies grants history pairs scripts
+    → (granted home : ℕ) (list : List Unit) → ArePlain granted home (books_of list grants history) pairs scripts
+    → PlainClientsAreScripted granted partitions (trace_of pairs scripts lan lan_rows history grants copies)
+scripted_are pairs scripts lan lan_rows history grants copies partitions are lawful of_plan rests granted home list plain client server is plainly =
+    let p = client.partition in
+    let at = script_at partitions pairs scripts lan.seats client (units.Client server is.0 is.1) of_plan is.2 in
+    let script = at.0 in
+    let own = are p script at.1 in
+    let serves : IsServer partitions server = of_plan.sound.served client server is in
+    let lines : script_of partitions p ≡ script.lines.now = lines_in (slice_get partitions p) script (of_plan.scripts_are.each p script at.1) in
+    let stands = plain p client.unit server.unit script at.1 (record { sits = at.2; plain = subst (IsPlainClient client.unit) lines plainly }) in
+    let has : Pair → Type 0 = λ pair. IsSomeAnd pair.driver (λ driver. driver.unit ≡ unit_of script.partition client.unit) in
+    let pair = held has (slice_get pairs server.unit) (own.script_is.seats client.unit server.unit at.2) in
+    let size : pages_at partitions (unit_of script.partition client.unit) ≡ length pair.0.window.pages =
+    client_pages partitions server.unit (unit_of script.partition client.unit) pair.0 (of_plan.pairs_are.each server.unit pair.0 pair.1) pair.2 in
+    let pages : pages_at partitions client ≡ length pair.0.window.pages = ap (λ n. pages_at partitions (unit_of n client.unit)) (sym own.number) ∙ size in
+    let stood = held (StandsPlainly granted client.unit script) (slice_get pairs server.unit) stands.stands in
+    let replayed : IsReplayed granted (length pair.0.window.pages) before_lines (ended_by client.unit script.lines.now script.logs.items) =
+    subst (λ (x : Pair). IsReplayed granted (length x.window.pages) before_lines (ended_by client.unit script.lines.now script.logs.items)) (some_is stood.0 pair.0 (sym stood.1 ∙ pair.1)) stood.2.replayed in
+    let home_at = held (λ (s : Script). are_servers s.seats.items ≡ true) (slice_get scripts home) stands.behind.servers in
+    let home_is : home ≡ server.partition = servers_home partitions pairs scripts lan.seats server home home_at.0 of_plan serves home_at.1 home_at.2 in
+    let name : server_id home server.unit ≡ server = ap (λ n. unit_of n server.unit) home_is in
+    let ready = held (IsReadyPair granted home (books_of list grants history) server.unit) (slice_get pairs server.unit) stands.ready in
+    let there = held (λ (pair : Pair). pair.server ≡ server) (slice_get pairs server.unit) (of_plan.pairs_are.servers server serves) in
+    let same : ready.0.server ≡ server = ap (λ (x : Pair). x.server) (some_is ready.0 there.0 (sym ready.1 ∙ there.1)) ∙ there.2 in
+    let empty = emptied rests.units pairs scripts lan.seats partitions server ready.0 are lawful of_plan rests.idle serves ready.1 same in
+    let books : HasBooks server grants history =
+    subst (λ (unit : UnitId). HasBooks unit grants history) name (books_ready granted home server.unit (books_of list grants history) ready.0 empty.0 ready.2) in
+    record {
+      records = subst (λ n. IsReplayed granted n before_lines (ended_by client.unit (script_of partitions p) (filter (λ (row : LogRow). row.partition == p) (flat_map logs_of scripts)))) (sym pages)
+          (subst (λ (ls : List Line). IsReplayed granted (length pair.0.window.pages) before_lines (ended_by client.unit ls (filter (λ (row : LogRow). row.partition == p) (flat_map logs_of scripts)))) (sym lines)
+          (subst (λ (rows : List LogRow). IsReplayed granted (length pair.0.window.pages) before_lines (ended_by client.unit script.lines.now rows)) (sym (own_records pairs scripts lan p script are at.1)) replayed));
+      logins = books.ends;
+      tags = books.tags;
+    }
+
+-- ---- the same books, pairs and scripts
+
+pub plain_same : (granted home : ℕ) (list : List Unit) (lines lines' : List Grant) (rows rows' : List Served) (pairs pairs' : List Pair) (scripts scripts' : List Script)
+    → lines' ≡ lines → rows' ≡ rows → pairs' ≡ pairs → scripts' ≡ scripts → ArePlain granted home (books_of list lines rows) pairs scripts
+    → ArePlain granted home (books_of list lines' rows') pairs' scripts'
+plain_same granted home list lines lines' rows rows' pairs pairs' scripts scripts' same_lines same_rows same_pairs same_scripts plain =
+    subst (λ (l : List Grant). ArePlain granted home (books_of list l rows') pairs' scripts') (sym same_lines)
+    (subst (λ (l : List Served). ArePlain granted home (books_of list lines l) pairs' scripts') (sym same_rows)
+    (subst (λ (l : List Pair). ArePlain granted home (books_of list lines rows) l scripts') (sym same_pairs)
+    (subst (λ (l : List Script). ArePlain granted home (books_of list lines rows) pairs l) (sym same_scripts) plain)))

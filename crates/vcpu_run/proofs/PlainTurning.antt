@@ -1,0 +1,218 @@
+-- A turn of a script, its first and its last lines, and a line that waited and was ended: as plain clients see them.
+use Rattle.std.proofs.Common.{◌≡◌, ◌≢◌, ◌∙◌, ◌⊎◌, inl, inr, ℕ, ◌+◌, ◌≤◌, ◌==◌, ◌++◌, Bool, true, false, true≢false, List, [], ◌∷◌, Option, Some, None, IfSome, IsSomeAnd, is_some, length, refl, slice_get, sym, ap, subst, arith, eqb-true}
+use Rattle.boot_text.specs.declared.plan.Line.{Line}
+use Rattle.boot_text.specs.declared.verb.Verb.{Verb}
+use Rattle.vio_num.specs.declared.names.UnitId.{UnitId}
+use Rattle.vio_trace.specs.declared.outcome.Outcome.{Outcome}
+use Rattle.vio_trace.specs.declared.rows.LogRow.{LogRow}
+use Rattle.crq_session.specs.PlainState.{side_of}
+use Rattle.crq_session.specs.declared.handshake.Handshake.TheVariants.{Down, Waiting}
+use Rattle.block_server.specs.declared.unit.Unit.{Unit}
+use Rattle.vscsi_client.specs.State.{ClientState, new_client}
+use Rattle.vcpu_run.specs.Credited.{Ended, ended_by}
+use Rattle.vcpu_run.specs.Pairs.{AreDriven}
+use Rattle.vcpu_run.specs.PlainScripts.{AllRestPlainly, AllTalkOn, IsPlainSeat, NoneAwaits, OfUnit, PairAsks, PairIs, PairTalks, QuietsPlainly, StandsAt, StandsPlainly, StandsPlainlyAt, TurnedPlainly, TurnsPlainly, after_ended, awaits, rows_in}
+use Rattle.vcpu_run.specs.PlainPairs.{between_of}
+use Rattle.vcpu_run.specs.PlainSteps.{AreReplayedAs, FollowsReplay, HasCome}
+use Rattle.vcpu_run.specs.Replay.{IsReplayed, Replay, before_lines}
+use Rattle.vcpu_run.specs.Scripts.{AreSeats}
+use Rattle.vcpu_run.specs.ScriptTold.{SameClient, SameClients}
+use Rattle.vcpu_run.specs.Works.{fails}
+use Rattle.vcpu_run.specs.declared.driver.Driver.{Driver}
+use Rattle.vcpu_run.specs.declared.pair.Pair.{Pair}
+use Rattle.vcpu_run.specs.declared.script.Progress.{Progress}
+use Rattle.vcpu_run.specs.declared.script.Progress.TheVariants as progress
+use Rattle.vcpu_run.specs.declared.script.Script.{Script}
+use Rattle.vcpu_run.proofs.Crediting.{here_or}
+use Rattle.vcpu_run.proofs.Driving.{some_is}
+use Rattle.vcpu_run.proofs.Listed.{held, held_is, is_held}
+use Rattle.vcpu_run.proofs.Logging.{all_at}
+use Rattle.vcpu_run.proofs.PlainAsking.{follows_still}
+use Rattle.vcpu_run.proofs.PlainReplayed.{come_still}
+use Rattle.vcpu_run.proofs.PlainScripted.{anew_at, other_ends, pair_still, stands_next}
+use Rattle.vcpu_run.proofs.ScriptsTold.{EndsWaiting, of_login, of_reset, of_take}
+use Rattle.vcpu_run.proofs.SeatPairs.{after_of, before_of}
+
+-- ---- behind the last line
+
+pub rests_plainly : (old new : List Pair) (script : Script) → slice_get script.lines.now script.at ≡ None → AreSeats script.partition script.seats.items old → AreDriven old new
+    → AllRestPlainly old new → TurnsPlainly old new script script
+rests_plainly old new script over are driven rests granted u k unit seat talks stood =
+    let was = held (PairTalks granted unit []) (slice_get old k) talks in
+    let stands : StandsPlainly granted u script was.0 = held_is (StandsPlainly granted u script) (slice_get old k) was.0 was.1 stood in
+    let after = after_of script.partition u k script.seats.items old new are driven seat.sits in
+    let b = before_of script.partition u k script.seats.items old new after.0 are driven seat.sits after.1 in
+    let pages : length after.0.window.pages ≡ length was.0.window.pages = b.pages ∙ ap (λ (pair : Pair). length pair.window.pages) (some_is b.pair was.0 (sym b.there ∙ was.1)) in
+    let follows : (later : Replay) × PairIs (FollowsReplay granted later) was.0 =
+    subst (λ (o : Option Line). StandsAt granted u o script.progress (after_ended granted (length was.0.window.pages) before_lines (ended_by u script.lines.now script.logs.items)) was.0) over stands.stands in
+    let later = rests k was.0 after.0 was.1 after.1 granted unit follows.0 was.2 follows.1 in
+    record {
+      words = [];
+      talks = is_held (PairTalks granted unit []) (slice_get new k) after.0 after.1 later.0;
+      anew = anew_at k old new was.0 after.0 [] was.1 after.1 later.1;
+      stands = is_held (StandsPlainly granted u script) (slice_get new k) after.0 after.1 (record {
+        replayed = subst (λ n. IsReplayed granted n before_lines (ended_by u script.lines.now script.logs.items)) (sym pages) stands.replayed;
+        stands = subst (λ (o : Option Line). StandsAt granted u o script.progress (after_ended granted (length after.0.window.pages) before_lines (ended_by u script.lines.now script.logs.items)) after.0) (sym over)
+            (later.2, later.3);
+      });
+    }
+
+pub rests_quietly : (old new : List Pair) (script : Script) → slice_get script.lines.now script.at ≡ None → QuietsPlainly old new script script
+rests_quietly old new script over granted u k unit seat talks stood idle =
+    subst (λ (o : Option Line). IfSome o (λ line. line.unit ≡ u → awaits line.verb ≡ false)) (sym over) tt
+
+-- ---- a line that fails its partition is none of a plain client's
+
+never_fails : (script : Script) (line : Line) (u k : ℕ) → slice_get script.lines.now script.at ≡ Some line → fails line.verb ≡ true → IsPlainSeat script u k → ⊥
+never_fails script line u k found failing seat =
+    true≢false (sym failing ∙ all_at (λ (l : Line). fails l.verb ≡ false) script.lines.now script.at line found seat.plain.no_failure)
+
+pub fails_plainly : (old new : List Pair) (script done : Script) (line : Line) → slice_get script.lines.now script.at ≡ Some line → fails line.verb ≡ true → TurnsPlainly old new script done
+fails_plainly old new script done line found failing granted u k unit seat talks stood = absurd (never_fails script line u k found failing seat)
+
+pub fails_quietly : (old new : List Pair) (script done : Script) (line : Line) → slice_get script.lines.now script.at ≡ Some line → fails line.verb ≡ true → QuietsPlainly old new script done
+fails_quietly old new script done line found failing granted u k unit seat talks stood idle = absurd (never_fails script line u k found failing seat)
+
+-- ---- the client is as it was
+
+stands_still : (granted u : ℕ) (script : Script) (before after : Pair) → after.driver ≡ before.driver → length after.window.pages ≡ length before.window.pages
+    → (side_of after.link false).registered ≡ (side_of before.link false).registered → StandsPlainly granted u script before → StandsPlainly granted u script after
+stands_still granted u script before after driver pages queue stood = record {
+  replayed = subst (λ n. IsReplayed granted n before_lines (ended_by u script.lines.now script.logs.items)) (sym pages) stood.replayed;
+  stands = subst (λ n. StandsAt granted u (slice_get script.lines.now script.at) script.progress (after_ended granted n before_lines (ended_by u script.lines.now script.logs.items)) after) (sym pages)
+      (by (slice_get script.lines.now script.at) (after_ended granted (length before.window.pages) before_lines (ended_by u script.lines.now script.logs.items)) stood.stands);
+}
+  where
+    follows : (now : Replay) → PairIs (FollowsReplay granted now) before → PairIs (FollowsReplay granted now) after
+    follows now = pair_still (FollowsReplay granted now) before after (λ at at' client registered f. follows_still granted now at at' f client registered) driver queue
+
+    by : (o : Option Line) (now : Replay) → StandsAt granted u o script.progress now before → StandsAt granted u o script.progress now after
+    by None now is = (is.0, follows is.0 is.1)
+    by (Some line) now is = at (line.unit == u) is
+      where
+        at : (b : Bool) → OfUnit b (PairIs (HasCome granted line.verb script.progress now) before) (PairIs (FollowsReplay granted now) before)
+            → OfUnit b (PairIs (HasCome granted line.verb script.progress now) after) (PairIs (FollowsReplay granted now) after)
+        at true come = pair_still (HasCome granted line.verb script.progress now) before after (come_still granted line.verb script.progress now) driver queue come
+        at false f = follows now f
+
+pub clients_stand : (granted u k : ℕ) (old new : List Pair) (script : Script) → (slice_get new k ≡ None → slice_get old k ≡ None) → SameClients old new → StandsPlainlyAt granted u k old script
+    → StandsPlainlyAt granted u k new script
+clients_stand granted u k old new script there same stood = by (slice_get new k) refl
+  where
+    was : (pair : Pair) × (slice_get old k ≡ Some pair) × StandsPlainly granted u script pair
+    was = held (StandsPlainly granted u script) (slice_get old k) stood
+
+    none : (o : Option Pair) → o ≡ None → o ≡ Some was.0 → ⊥
+    none o a b = cc (a, b)
+
+    by : (o : Option Pair) → slice_get new k ≡ o → IsSomeAnd o (StandsPlainly granted u script)
+    by None e = absurd (none (slice_get old k) (there e) was.1)
+    by (Some after) e = at (slice_get old k) refl (same k after e)
+      where
+        at : (o : Option Pair) → slice_get old k ≡ o → IsSomeAnd o (λ before. SameClient before after) → StandsPlainly granted u script after
+        at None e h = absurd h
+        at (Some before) e h =
+            stands_still granted u script before after h.driver h.pages h.queue (subst (StandsPlainly granted u script) (some_is was.0 before (sym was.1 ∙ e)) was.2)
+
+-- ---- kept events are pushed first
+
+-- what of a plain client stands as they were pushed
+record Pushed (granted u k : ℕ) (unit : Unit) (script : Script) (old mid : List Pair) : Type 0 where
+  talks : IsSomeAnd (slice_get mid k) (PairTalks granted unit [])
+  stands : StandsPlainlyAt granted u k mid script
+  rows : (before middle : Pair) → slice_get old k ≡ Some before → slice_get mid k ≡ Some middle → rows_in middle.driver ≡ rows_in before.driver
+  after : (middle : Pair) × (slice_get mid k ≡ Some middle)
+
+pushed : (granted u k : ℕ) (unit : Unit) (script : Script) (old mid : List Pair) → AreSeats script.partition script.seats.items old → AreDriven old mid → SameClients old mid → AllTalkOn old mid
+    → IsPlainSeat script u k → IsSomeAnd (slice_get old k) (PairTalks granted unit []) → StandsPlainlyAt granted u k old script → Pushed granted u k unit script old mid
+pushed granted u k unit script old mid are driven same on seat talks stood =
+    let was = held (PairTalks granted unit []) (slice_get old k) talks in
+    let after = after_of script.partition u k script.seats.items old mid are driven seat.sits in
+    record {
+      talks = is_held (PairTalks granted unit []) (slice_get mid k) after.0 after.1 (on k was.0 after.0 was.1 after.1 granted unit was.2);
+      stands = clients_stand granted u k old mid script (λ none. absurd (both (slice_get mid k) none after.1)) same stood;
+      rows = λ before middle there here. rows_at before middle (slice_get old k) there (same k middle here);
+      after = after;
+    }
+  where
+    both : {o' : Pair} (o : Option Pair) → o ≡ None → o ≡ Some o' → ⊥
+    both o a b = cc (a, b)
+
+    rows_at : (before middle : Pair) (o : Option Pair) → o ≡ Some before → IsSomeAnd o (λ b. SameClient b middle) → rows_in middle.driver ≡ rows_in before.driver
+    rows_at before middle None there h = absurd h
+    rows_at before middle (Some b) there h = ap rows_in h.driver ∙ ap (λ (pair : Pair). rows_in pair.driver) (some_is b before there)
+
+pub pushes_plainly : (old mid new : List Pair) (script later : Script) → AreSeats script.partition script.seats.items old → AreDriven old mid → SameClients old mid → AllTalkOn old mid
+    → TurnsPlainly mid new script later → TurnsPlainly old new script later
+pushes_plainly old mid new script later are driven same on turns granted u k unit seat talks stood =
+    let p = pushed granted u k unit script old mid are driven same on seat talks stood in
+    let turned = turns granted u k unit seat p.talks p.stands in
+    record {
+      words = turned.words;
+      talks = turned.talks;
+      anew = λ before after there here. subst (λ n. PairAsks n turned.words after) (p.rows before p.after.0 there p.after.1) (turned.anew p.after.0 after p.after.1 here);
+      stands = turned.stands;
+    }
+
+pub pushes_quietly : (old mid new : List Pair) (script later : Script) → AreSeats script.partition script.seats.items old → AreDriven old mid → SameClients old mid → AllTalkOn old mid
+    → QuietsPlainly mid new script later → QuietsPlainly old new script later
+pushes_quietly old mid new script later are driven same on quiets granted u k unit seat talks stood idle =
+    let p = pushed granted u k unit script old mid are driven same on seat talks stood in quiets granted u k unit seat p.talks p.stands idle
+
+-- ---- a line that waited is ended: it is none of the client's
+
+pub waiting_ends : (granted u k : ℕ) (pairs : List Pair) (script done : Script) (line : Line) (row : LogRow) → slice_get script.lines.now script.at ≡ Some line
+    → length script.logs.items ≡ script.at → EndsWaiting script.progress line.verb row.outcome → done.lines ≡ script.lines → done.logs.items ≡ script.logs.items ++ row ∷ []
+    → done.progress ≡ progress.Fresh → NoneAwaits u script → StandsPlainlyAt granted u k pairs script → StandsPlainlyAt granted u k pairs done
+waiting_ends granted u k pairs script done line row found many ends lines logs fresh none stood =
+    let was = held (StandsPlainly granted u script) (slice_get pairs k) stood in
+    is_held (StandsPlainly granted u done) (slice_get pairs k) was.0 was.1
+    (other_ends granted u script done line row was.0 found many lines logs fresh (other (here_or line.unit u)) was.2)
+  where
+    awaited : EndsWaiting script.progress line.verb row.outcome → awaits line.verb ≡ true
+    awaited (of_login verb outcome) = ap awaits verb
+    awaited (of_reset verb outcome) = ap awaits verb
+    awaited (of_take count verb outcome) = ap awaits verb
+
+    other : ((line.unit == u) ≡ true) ⊎ ((line.unit == u) ≡ false) → (line.unit == u) ≡ false
+    other (inr differ) = differ
+    other (inl same) =
+        let quiet : line.unit ≡ u → awaits line.verb ≡ false = subst (λ (o : Option Line). IfSome o (λ l. l.unit ≡ u → awaits l.verb ≡ false)) found none in
+        absurd (true≢false (sym (awaited ends) ∙ quiet (eqb-true line.unit u same)))
+
+-- ---- before the first line
+
+new_follows : (granted : ℕ) (pair : Pair) (driver : Driver) (id server : UnitId) → pair.driver ≡ Some driver → driver.client ≡ new_client id server
+    → (side_of pair.link false).registered ≡ false → PairIs (FollowsReplay granted before_lines) pair
+new_follows granted pair driver id server is client off =
+    subst (λ (o : Option Driver). IsSomeAnd o (λ d. (unit : Unit) → FollowsReplay granted before_lines (between_of unit d pair))) (sym is) (λ unit. record {
+      tag = ap (λ (s : ClientState). length s.rows + 1) client;
+      login = ap (λ (s : ClientState). s.login) client;
+      settled = λ waits. not_waiting (sym (ap (λ (s : ClientState). s.handshake) client) ∙ waits);
+      fresh = λ none. ap (λ (s : ClientState). s.kept) client;
+      credits = record {
+        is_on = ap (λ (s : ClientState). is_some s.granted) client;
+        there = λ on. absurd (true≢false (sym on));
+        outstanding = subst (λ (s : ClientState). AreReplayedAs s.outgoing []) (sym client) tt;
+        none = λ off. refl;
+        within = omega arith;
+      };
+    })
+  where
+    not_waiting : Down ≡ Waiting → ⊥
+    not_waiting e = cc (e)
+
+none_ended : (u : ℕ) (lines : List Line) → ended_by u lines [] ≡ []
+none_ended u [] = refl
+none_ended u (line ∷ lines) = refl
+
+pub starts_plainly : (granted u : ℕ) (script : Script) (pair : Pair) (driver : Driver) (id server : UnitId) → script.logs.items ≡ [] → script.progress ≡ progress.Fresh
+    → pair.driver ≡ Some driver → driver.client ≡ new_client id server → (side_of pair.link false).registered ≡ false → StandsPlainly granted u script pair
+starts_plainly granted u script pair driver id server logs fresh is client off =
+    let none : ended_by u script.lines.now script.logs.items ≡ [] = ap (ended_by u script.lines.now) logs ∙ none_ended u script.lines.now in
+    record {
+      replayed = subst (IsReplayed granted (length pair.window.pages) before_lines) (sym none) tt;
+      stands = subst (λ (list : List Ended). StandsAt granted u (slice_get script.lines.now script.at) script.progress (after_ended granted (length pair.window.pages) before_lines list) pair) (sym none)
+          (subst (λ (p : Progress). StandsAt granted u (slice_get script.lines.now script.at) p before_lines pair) (sym fresh)
+          (stands_next granted u (slice_get script.lines.now script.at) before_lines pair (new_follows granted pair driver id server is client off)));
+    }

@@ -1,0 +1,164 @@
+-- Plain clients at their pairs and in their scripts: how far the lines of each came, as the replay of them says, between turns.
+use Rattle.std.specs.Prelude.{◌≡◌, ◌≢◌, ◌⊎◌, ℕ, Bool, true, false, All, IfOk, IfSome, IsSomeAnd, List, [], ◌∷◌, OnOk, Option, Some, None, Result, length, slice_get, ◌==◌}
+use Rattle.vio_num.specs.declared.hypervisor.Moved.TheVariants.{Quiet}
+use Rattle.vio_num.specs.declared.memory.NoMemory.{NoMemory}
+use Rattle.boot_text.specs.declared.plan.Line.{Line}
+use Rattle.boot_text.specs.declared.verb.Verb.{Verb}
+use Rattle.boot_text.specs.declared.verb.Verb.TheVariants as verbs
+use Rattle.vio_num.specs.declared.names.UnitId.{UnitId}
+use Rattle.crq_session.specs.PlainState.{side_of}
+use Rattle.unit_region.specs.declared.step.Step.{Step}
+use Rattle.unit_region.specs.declared.step.Step.TheVariants as steps
+use Rattle.block_server.specs.Talk.{Word}
+use Rattle.block_server.specs.declared.unit.Unit.{Unit}
+use Rattle.vscsi_client.specs.State.{new_client}
+use Rattle.vcpu_run.specs.Credited.{Ended, ended_by}
+use Rattle.vcpu_run.specs.PlainClients.{IsPlainClient}
+use Rattle.vcpu_run.specs.PlainPairs.{between_of}
+use Rattle.vcpu_run.specs.PlainSteps.{AsksAnew, FollowsReplay, HasCome, IsPlainVerb, SparesTables}
+use Rattle.vcpu_run.specs.PlainTalk.{Between, TalksPlainly}
+use Rattle.vcpu_run.specs.Replay.{IsReplayed, Replay, after_line, before_lines, ends_as}
+use Rattle.vcpu_run.specs.declared.driver.Driver.{Driver}
+use Rattle.vcpu_run.specs.declared.pair.Pair.{Pair}
+use Rattle.vcpu_run.specs.declared.script.Progress.{Progress}
+use Rattle.vcpu_run.specs.declared.script.Script.{Script}
+use Rattle.vcpu_run.specs.declared.unit_seat.Seat.{Seat}
+use Rattle.vcpu_run.specs.declared.unit_seat.Seat.TheVariants as sits
+
+-- AT A PAIR ---------------------------------------------------------------------------------------
+
+-- the client of a pair, which has one, and this server unit talk plainly, and these words are to come
+abbrev pub PairTalks : (granted : ℕ) → Unit → List Word → Pair → Type 0
+PairTalks granted unit words pair = IsSomeAnd pair.driver (λ driver. TalksPlainly granted (between_of unit driver pair) words)
+
+-- P of the client of a pair and its queue, whatever its server unit is
+abbrev pub PairIs : (P : Between → Type 0) → Pair → Type 0
+PairIs P pair = IsSomeAnd pair.driver (λ driver. (unit : Unit) → P (between_of unit driver pair))
+
+-- The server unit is yet to hear of something, or to serve something.
+abbrev pub HasWork : Unit → List Word → Type 0
+HasWork unit words = (words ≢ []) ⊎ (unit.pending.items ≢ [])
+
+-- A line that ends has the outcome of the replay, if it has one there, and leaves what is left by it; one that waits, and has an outcome
+-- there, does so only for what the server unit has to do, and put nothing where it says that it did nothing.
+abbrev pub PairSteppedAs : (granted : ℕ) → Unit → Verb → Progress → Replay → Pair → List Word → Step → Type 0
+PairSteppedAs granted unit verb p now pair words (steps.Ends outcome) =
+    IfSome (ends_as granted (length pair.window.pages) now verb) (λ said. outcome ≡ said)
+    × PairIs (FollowsReplay granted (after_line granted (length pair.window.pages) now verb)) pair
+PairSteppedAs granted unit verb p now pair words (steps.Waits did) =
+    PairIs (HasCome granted verb p now) pair
+    × IfSome (ends_as granted (length pair.window.pages) now verb) (λ said. HasWork unit words)
+    × (did ≡ Quiet → words ≡ [])
+
+-- how many things a client asked for
+abbrev pub rows_in : Option Driver → ℕ
+rows_in None = 0
+rows_in (Some driver) = length driver.client.rows
+
+-- since it had asked for so many, it asked for what these words do
+abbrev pub PairAsks : (last : ℕ) → List Word → Pair → Type 0
+PairAsks last words pair = IsSomeAnd pair.driver (λ driver. AsksAnew last driver.client words)
+
+pub record PairSteppedOn (granted : ℕ) (unit : Unit) (verb : Verb) (p : Progress) (now : Replay) (last : ℕ) (pair : Pair) (step : Step) : Type 0 where
+  pub words : List Word
+  pub talks : PairTalks granted unit words pair
+  pub anew : PairAsks last words pair
+  pub stepped : PairSteppedAs granted unit verb p now pair words step
+
+-- A step of a plain line at its pair goes on as the replay, where nothing is to come to the server unit.
+abbrev pub PairPlainly : Verb → (p p' : Progress) → (old new : Pair) → Result Step NoMemory → Type 0
+PairPlainly verb p p' old new result =
+    IsPlainVerb verb → (granted : ℕ) (unit : Unit) (now : Replay) → SparesTables verb now → PairTalks granted unit [] old → PairIs (HasCome granted verb p now) old
+    → IfOk result (PairSteppedOn granted unit verb p' now (rows_in old.driver) new)
+
+-- Behind the last line answers are taken, and nothing is asked.
+abbrev pub PairRestsPlainly : (old new : Pair) → Type 0
+PairRestsPlainly old new = (granted : ℕ) (unit : Unit) (now : Replay) → PairTalks granted unit [] old → PairIs (FollowsReplay granted now) old
+    → PairTalks granted unit [] new × PairAsks (rows_in old.driver) [] new × (later : Replay) × PairIs (FollowsReplay granted later) new
+
+-- The client and its server unit talk on as they did.
+abbrev pub PairTalksOn : (old new : Pair) → Type 0
+PairTalksOn old new = (granted : ℕ) (unit : Unit) → PairTalks granted unit [] old → PairTalks granted unit [] new
+
+-- the same of all pairs, and of the pair of a line's client
+abbrev pub AllRestPlainly : (old new : List Pair) → Type 0
+AllRestPlainly old new = (k : ℕ) (before after : Pair) → slice_get old k ≡ Some before → slice_get new k ≡ Some after → PairRestsPlainly before after
+
+abbrev pub AllTalkOn : (old new : List Pair) → Type 0
+AllTalkOn old new = (k : ℕ) (before after : Pair) → slice_get old k ≡ Some before → slice_get new k ≡ Some after → PairTalksOn before after
+
+abbrev pub SeatPlainly : (seat : ℕ) → Verb → (p p' : Progress) → (old new : List Pair) → Result Step NoMemory → Type 0
+SeatPlainly seat verb p p' old new result =
+    (before after : Pair) → slice_get old seat ≡ Some before → slice_get new seat ≡ Some after → PairPlainly verb p p' before after result
+
+abbrev pub LinePlainly : List Seat → Line → (p p' : Progress) → (old new : List Pair) → Result Step NoMemory → Type 0
+LinePlainly seats line p p' old new result = (k : ℕ) → slice_get seats line.unit ≡ Some (sits.Client k) → SeatPlainly k line.verb p p' old new result
+
+-- IN A SCRIPT -------------------------------------------------------------------------------------
+
+-- what is left by the lines of a client that ended
+abbrev pub after_ended : (granted pages : ℕ) → Replay → List Ended → Replay
+after_ended granted pages now [] = now
+after_ended granted pages now (ended ∷ more) = after_ended granted pages (after_line granted pages now ended.verb) more
+
+-- the one of a line of the unit, the other of another's
+abbrev pub OfUnit : (own : Bool) → (P Q : Type 0) → Type 0
+OfUnit true P Q = P
+OfUnit false P Q = Q
+
+-- How far the current line came, if there is one and it is of this unit; else the client stands between two lines. Behind the last line it
+-- takes what answers there are.
+abbrev pub StandsAt : (granted unit : ℕ) → Option Line → Progress → Replay → Pair → Type 0
+StandsAt granted unit None p now pair = (later : Replay) × PairIs (FollowsReplay granted later) pair
+StandsAt granted unit (Some line) p now pair =
+    OfUnit (line.unit == unit) (PairIs (HasCome granted line.verb p now) pair) (PairIs (FollowsReplay granted now) pair)
+
+-- The lines of unit u that ended did so as the replay says, and its client stands as these and its current line leave it.
+pub record StandsPlainly (granted u : ℕ) (script : Script) (pair : Pair) : Type 0 where
+  pub replayed : IsReplayed granted (length pair.window.pages) before_lines (ended_by u script.lines.now script.logs.items)
+  pub stands : StandsAt granted u (slice_get script.lines.now script.at) script.progress
+      (after_ended granted (length pair.window.pages) before_lines (ended_by u script.lines.now script.logs.items)) pair
+
+-- A pair before the first turn: its client has done nothing, and its queue is not registered.
+pub record StartsAnew (pair : Pair) : Type 0 where
+  pub driver : Driver
+  pub driver_is : pair.driver ≡ Some driver
+  pub server : UnitId
+  pub client : driver.client ≡ new_client driver.unit server
+  pub queue : (side_of pair.link false).registered ≡ false
+
+-- the same at pair k
+abbrev pub StandsPlainlyAt : (granted u k : ℕ) → List Pair → Script → Type 0
+StandsPlainlyAt granted u k pairs script = IsSomeAnd (slice_get pairs k) (StandsPlainly granted u script)
+
+-- whether a line may wait for an answer
+abbrev pub awaits : Verb → Bool
+awaits verbs.Login = true
+awaits verbs.Reset = true
+awaits (verbs.Take count) = true
+awaits verb = false
+
+-- No line of unit u waits for an answer.
+abbrev pub NoneAwaits : (u : ℕ) → Script → Type 0
+NoneAwaits u script = IfSome (slice_get script.lines.now script.at) (λ line. line.unit ≡ u → awaits line.verb ≡ false)
+
+-- a plain client of a script, which is unit u and sits at pair k
+pub record IsPlainSeat (script : Script) (u k : ℕ) : Type 0 where
+  pub sits : slice_get script.seats.items u ≡ Some (sits.Client k)
+  pub plain : IsPlainClient u script.lines.now
+
+-- A turn of a script leaves each plain client as the replay says, where it and this server unit talk plainly and nothing is to come.
+pub record TurnedPlainly (granted u k : ℕ) (unit : Unit) (old new : List Pair) (script : Script) : Type 0 where
+  pub words : List Word
+  pub talks : IsSomeAnd (slice_get new k) (PairTalks granted unit words)
+  pub anew : (before after : Pair) → slice_get old k ≡ Some before → slice_get new k ≡ Some after → PairAsks (rows_in before.driver) words after
+  pub stands : StandsPlainlyAt granted u k new script
+
+abbrev pub TurnsPlainly : (old new : List Pair) → (script script' : Script) → Type 0
+TurnsPlainly old new script script' = (granted u k : ℕ) (unit : Unit) → IsPlainSeat script u k → IsSomeAnd (slice_get old k) (PairTalks granted unit [])
+    → StandsPlainlyAt granted u k old script → TurnedPlainly granted u k unit old new script'
+
+-- One that did nothing, where the server unit has nothing to serve, leaves no line of a plain client that waits.
+abbrev pub QuietsPlainly : (old new : List Pair) → (script script' : Script) → Type 0
+QuietsPlainly old new script script' = (granted u k : ℕ) (unit : Unit) → IsPlainSeat script u k → IsSomeAnd (slice_get old k) (PairTalks granted unit [])
+    → StandsPlainlyAt granted u k old script → unit.pending.items ≡ [] → NoneAwaits u script'
