@@ -151,7 +151,7 @@ still_tabled id shown shown' rows command outs same told asked is = record {
 
 -- ---- data-out are fetched
 
-first_placed : (inns : List Desc) → IsPlacedAt inns (record { piece = 0; inside = 0; done = 0 })
+pub first_placed : (inns : List Desc) → IsPlacedAt inns (record { piece = 0; inside = 0; done = 0 })
 first_placed inns = record { one = omega arith; done_is = omega arith; inside = omega arith }
 
 -- they are no longer

@@ -24,7 +24,7 @@ use Rattle.block_server.proofs.Talking.{not_in_use}
 
 -- THE LAST ROW -----------------------------------------------------------------------------------
 
-last_there : (rows : List ServedRow) (row : ServedRow) → slice_get (rows ++ row ∷ []) (length rows) ≡ Some row
+pub last_there : (rows : List ServedRow) (row : ServedRow) → slice_get (rows ++ row ∷ []) (length rows) ≡ Some row
 last_there [] row = refl
 last_there (first ∷ rows) row = last_there rows row
 

@@ -70,6 +70,12 @@ pub mod Ended
 pub mod Accepting
 pub mod Working
 pub mod Booking
+pub mod Bearing
+pub mod CommandBearing
+pub mod Leaving
+pub mod AnswerBearing
+pub mod BearingParts
+pub mod BearingRows
 pub mod Deciding
 pub mod Verdicts
 pub mod Limits

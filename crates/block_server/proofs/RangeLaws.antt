@@ -39,11 +39,11 @@ use Rattle.block_server.specs.Talk.{StaysKnown}
 use Rattle.block_server.proofs.NamedWindows.{grows_same}
 
 -- a page stayed as it was
-each_none : (P : StrokeValue → Type 0) (strokes : Option (List StrokeValue)) → AddsEach P strokes strokes
+pub each_none : (P : StrokeValue → Type 0) (strokes : Option (List StrokeValue)) → AddsEach P strokes strokes
 each_none P (Some strokes) = ([], sym (append-nil strokes), All-nil P)
 each_none P None = tt
 
-each_on : (P : StrokeValue → Type 0) (old mid new : Option (List StrokeValue)) → AddsEach P old mid → AddsEach P mid new → AddsEach P old new
+pub each_on : (P : StrokeValue → Type 0) (old mid new : Option (List StrokeValue)) → AddsEach P old mid → AddsEach P mid new → AddsEach P old new
 each_on P (Some old) (Some mid) (Some new) first next = (
   first.0 ++ next.0,
   next.1 ∙ ap (λ front. front ++ next.0) first.1 ∙ append_assoc old first.0 next.0,
@@ -55,7 +55,7 @@ each_on P (Some old) None new first next = absurd first
 each_on P None (Some mid) new first next = absurd first
 each_on P None None (Some new) first next = absurd next
 
-each_weaker : (P Q : StrokeValue → Type 0) → ((stroke : StrokeValue) → P stroke → Q stroke) → (old new : Option (List StrokeValue)) → AddsEach P old new → AddsEach Q old new
+pub each_weaker : (P Q : StrokeValue → Type 0) → ((stroke : StrokeValue) → P stroke → Q stroke) → (old new : Option (List StrokeValue)) → AddsEach P old new → AddsEach Q old new
 each_weaker P Q more (Some old) (Some new) is = (is.0, is.1, All-weaker P Q more is.0 is.2)
 each_weaker P Q more None None is = tt
 each_weaker P Q more (Some old) None is = absurd is
@@ -99,13 +99,13 @@ lays_wider Ranges Wider more None (Some new) is = absurd is
 -- ---- copies
 
 -- a take is no longer than it says
-take_most : (n : ℕ) (bytes : List ℕ) → length (take n bytes) ≤ n
+pub take_most : (n : ℕ) (bytes : List ℕ) → length (take n bytes) ≤ n
 take_most zero bytes = omega arith
 take_most (suc n) [] = omega arith
 take_most (suc n) (byte ∷ bytes) = let h = take_most n bytes in omega (arith, h)
 
 -- pieces go on
-touches_on : (unit : UnitId) (from to : ℕ) (pieces : List Piece) → Touches unit from to pieces → from ≤ to
+pub touches_on : (unit : UnitId) (from to : ℕ) (pieces : List Piece) → Touches unit from to pieces → from ≤ to
 touches_on unit from to [] is = omega (arith, is)
 touches_on unit from to (piece ∷ pieces) is = omega (arith, is.0)
 
@@ -153,7 +153,7 @@ pieces_lie unit values name bytes (piece ∷ pieces) address len from to page to
     by false is lie = lie
 
 -- a page on which such strokes were laid
-laid_each : (P : StrokeValue → Type 0) (old : Option (List StrokeValue)) (more : List StrokeValue) → All P more → AddsEach P old (with_strokes old more)
+pub laid_each : (P : StrokeValue → Type 0) (old : Option (List StrokeValue)) (more : List StrokeValue) → All P more → AddsEach P old (with_strokes old more)
 laid_each P (Some strokes) more all = (more, refl, all)
 laid_each P None more all = tt
 

@@ -47,7 +47,7 @@ first_same items a b xs ys is same = cc (is, same)
 entry_same : (entry : Entry) (long : ℕ) (a b : Request) → entry ≡ srp_entry long a.tag → a ≡ b → entry ≡ srp_entry long b.tag
 entry_same entry long a b is same = is ∙ ap (λ (r : Request). srp_entry long r.tag) same
 
-entry_one : (a b : Outcome) → stages.Entry a ≡ stages.Entry b → a ≡ b
+pub entry_one : (a b : Outcome) → stages.Entry a ≡ stages.Entry b → a ≡ b
 entry_one a b e = cc (e)
 
 -- ITS ENTRY --------------------------------------------------------------------------------------
@@ -67,7 +67,7 @@ puts_settled link unit unit' old new lines lines' outcome entry number long a b 
 }
 
 -- it was not, since the partner's queue is closed
-closed_off : (link : Bool) (old new : EndState) (answer : SendAnswer) → link ≡ false → old.registered ≡ true → ((number : ℕ) → answer ≡ sending.Success number → ⊥)
+pub closed_off : (link : Bool) (old new : EndState) (answer : SendAnswer) → link ≡ false → old.registered ≡ true → ((number : ℕ) → answer ≡ sending.Success number → ⊥)
     → ((number held : ℕ) → answer ≡ sending.Dropped number held → ⊥) → IfClosed answer (TurnsBack link old new) → OnNotSent answer (old.registered ≡ false) → old.place.partner_registered ≡ false
 closed_off link old new (sending.Success number) alone on success dropped closed off = absurd (success number refl)
 closed_off link old new (sending.Dropped number held) alone on success dropped closed off = absurd (dropped number held refl)

@@ -1,6 +1,7 @@
 -- Bytes that were just written to a window stand there, where one entry has them all.
-use Rattle.std.proofs.Common.{◌≡◌, ◌⊎◌, inl, inr, ◌+◌, ◌-◌, ◌*◌, ◌/◌, ◌%◌, ◌<◌, ◌≤◌, ◌==◌, ◌++◌, ℕ, Bool, true, false, cond, All, List, [], ◌∷◌, Option, Some, None, Result, Ok, Err, OnOk, length, take, drop, fold, refl, sym, ◌∙◌, ap, ap₂, subst, arith, append-nil, append_assoc, slice_get, length-append, length-drop}
+use Rattle.std.proofs.Common.{◌≡◌, ◌+◌, ◌-◌, ◌*◌, ◌/◌, ◌%◌, ◌<◌, ◌≤◌, ◌==◌, ◌++◌, ℕ, Bool, true, false, cond, All, List, [], ◌∷◌, Option, Some, None, Result, Ok, Err, OnOk, length, take, drop, fold, refl, sym, ◌∙◌, ap, ap₂, subst, arith, append-nil, append_assoc, slice_get, length-append, length-drop}
 use Rattle.std.specs.List.{flat_map}
+use Rattle.std.specs.Option.{option_and_then}
 use Rattle.std.proofs.lemmas.Bool.Decides.{nat_tests}
 use Rattle.std.proofs.lemmas.List.{drop_at, length-take, length-take-le, take_all, take_at}
 use Rattle.std.proofs.lemmas.List.Elements.{All-head}
@@ -8,41 +9,31 @@ use Rattle.page_slots.specs.Page.{left_by, overwritten, replaced, zeros}
 use Rattle.page_slots.specs.Stroke.{StrokeValue}
 use Rattle.page_slots.specs.declared.stroke.StrokeName.{StrokeName}
 use Rattle.page_slots.proofs.Laws.{left_by-push, length-zeros}
-use Rattle.crq_session.specs.EndState.{EndState, OnlyReserves}
-use Rattle.vio_num.specs.Entry.{srp_entry}
 use Rattle.vio_num.specs.declared.entry.Entry.{Entry}
-use Rattle.vio_num.specs.declared.history.Grant.{Grant}
 use Rattle.vio_num.specs.declared.memory.NoMemory.{NoMemory}
 use Rattle.vio_num.specs.declared.names.UnitId.{UnitId}
 use Rattle.tce_window.specs.declared.answers.Right.{Right}
 use Rattle.tce_window.specs.declared.answers.Right.TheVariants.{Read, Write}
 use Rattle.tce_window.specs.declared.piece.Piece.{Piece}
-use Rattle.tce_window.specs.Moved.{left_at, piece_strokes, read_bytes, strokes_on}
-use Rattle.tce_window.specs.Pieces.{HasStrokes, IsGranted, IsLast, Touches}
+use Rattle.tce_window.specs.Moved.{IsNamed, IsWrittenTo, bytes_of, left_at, piece_strokes, read_bytes, stroke_of, strokes_on}
+use Rattle.tce_window.specs.Pieces.{HasStrokes, IsGranted, IsLast, NamesPage, Touches}
 use Rattle.tce_window.specs.PortState.{LaysNone, OnlyWrites, PortState, Writes}
 use Rattle.tce_window.specs.Strokes.{with_strokes}
 use Rattle.rdma_copy.specs.Copies.{Copies, OnlyCopies}
 use Rattle.rdma_copy.specs.declared.copy.CopyRecord.{CopyRecord}
 use Rattle.block_server.specs.Copied.{MakesOne, own_name}
-use Rattle.block_server.specs.SiteState.{SiteState}
-use Rattle.block_server.specs.Granting.{LoginState, login_state}
-use Rattle.block_server.specs.Standing.{HasAnswerAt, IsAnswerTo, IsPutLast, LeavesAnswer, Stands}
-use Rattle.block_server.specs.Talk.{HasRoomFor, IsAnswerAt, IsReadWhole, IsServable, MayWriteAnswer, PutsAnswer, Replies, Suits, SuitsStage, reach_of, session_rows}
-use Rattle.block_server.specs.Waits.{MeetsUse}
-use Rattle.block_server.specs.Advances.{Advances}
+use Rattle.block_server.specs.Granting.{LoginState}
+use Rattle.block_server.specs.Standing.{HasAnswerAt, IsAnswerTo, IsStroke, Stands}
+use Rattle.block_server.specs.Talk.{IsReadWhole}
 use Rattle.block_server.specs.declared.request.Request.{Request}
 use Rattle.block_server.specs.declared.service.Outcome.{Outcome}
 use Rattle.block_server.specs.declared.service.Stage.{Stage}
 use Rattle.block_server.specs.declared.service.Stage.TheVariants as stages
-use Rattle.block_server.specs.Stage.{is_answered, is_before_step}
-use Rattle.block_server.specs.declared.unit.Unit.{Unit}
+use Rattle.block_server.specs.Stage.{is_before_step}
 use Rattle.block_server.specs.Responses.{Answers}
 use Rattle.srp_iu.specs.declared.response.Rsp.{Rsp}
 use Rattle.block_server.proofs.DeliveredBytes.{delivered_bytes}
-use Rattle.block_server.proofs.Listening.{puts_none, slots_kept}
 use Rattle.block_server.proofs.Owning.{same_first}
-use Rattle.block_server.proofs.Servicing.{first_same, may_later, same_reserves, suits_at}
-use Rattle.block_server.proofs.Talking.{not_in_use}
 
 -- PAGES ------------------------------------------------------------------------------------------
 
@@ -124,11 +115,56 @@ stroke_one name bytes piece = ap (λ t. cond t (record { name = name; offset = p
 
 -- COPIES -----------------------------------------------------------------------------------------
 
+-- a piece is the stroke that it names
+stroke_there : (client : PortState) (name : StrokeName) (address : ℕ) (bytes : List ℕ) (piece : Piece) → NamesPage client.values (address / 4096) piece.page → piece.offset ≡ address % 4096
+    → (page : Option (List StrokeValue)) → client.strokes piece.page ≡ page → (found : Option StrokeValue) → option_and_then (λ strokes. slice_get strokes piece.at) page ≡ found
+    → IsNamed name piece found → bytes_of found ≡ bytes → IsStroke client name address bytes
+stroke_there client name address bytes piece names offset page is None at named are = absurd named
+stroke_there client name address bytes piece names offset None is (Some stroke) at named are = absurd (cc (at))
+stroke_there client name address bytes piece names offset (Some strokes) is (Some stroke) at named are = record {
+  page = piece.page;
+  named = names;
+  strokes = strokes;
+  there = is;
+  place = piece.at;
+  is = at ∙ (λ i. Some (record { name = named.0 i; offset = (named.1 ∙ offset) i; bytes = are i }));
+}
+
+-- what was written to one piece is a stroke
+one_stroke : (client : PortState) (name : StrokeName) (to : ℕ) (bytes : List ℕ) (pieces : List Piece) → IsOne to (length bytes) pieces
+    → IsWrittenTo client.place.unit client.values client.strokes to name pieces bytes → All (IsLast client.values) pieces → IsStroke client name to bytes
+one_stroke client name to bytes pieces one written last =
+    stroke_there client name to bytes piece names one.offset (client.strokes piece.page) refl (stroke_of client.strokes piece) refl
+    (All-head (λ p. IsNamed name p (stroke_of client.strokes p)) piece [] (subst (All (λ p. IsNamed name p (stroke_of client.strokes p))) one.one written.named))
+    (sym (append-nil (bytes_of (stroke_of client.strokes piece))) ∙ ap (flat_map (λ p. bytes_of (stroke_of client.strokes p))) (sym one.one) ∙ written.join)
+  where
+    piece : Piece
+    piece = one.piece
+
+    granted : IsGranted client.values Write piece
+    granted = All-head (IsGranted client.values Write) piece [] (subst (All (IsGranted client.values Write)) one.one written.granted)
+
+    names : NamesPage client.values (to / 4096) piece.page
+    names = subst (λ (e : ℕ). NamesPage client.values e piece.page) one.entry (record {
+      version = piece.version;
+      value = granted.value;
+      current = record { shown = granted.shown; last = All-head (IsLast client.values) piece [] (subst (All (IsLast client.values)) one.one last) };
+      named = sym granted.page;
+    })
+
 -- what a copy wrote stands where it was written
 pub stands_now : (shared : Bool) (src old new : PortState) (from to len : ℕ) (name : StrokeName) (copy : CopyRecord) (bytes : List ℕ)
-    → (copied : Copies shared src old new from to len name copy) → copied.lawful.bytes ≡ bytes → 1 ≤ length bytes → Stands new to bytes
-stands_now shared src old new from to len name copy bytes copied is some = (some, λ fits read whole long. stand fits read whole long)
+    → (copied : Copies shared src old new from to len name copy) → copied.lawful.bytes ≡ bytes → 1 ≤ length bytes → Stands new name to bytes
+stands_now shared src old new from to len name copy bytes copied is some = record { some = some; stand = stand; laid = λ fits. laid fits }
   where
+    written : IsWrittenTo new.place.unit new.values new.strokes to name copy.to.items bytes
+    written = subst (λ (z : StrokeName × List ℕ). IsWrittenTo new.place.unit new.values new.strokes to z.0 copy.to.items z.1) (λ i. (copied.name_is i, is i)) copied.lawful.written
+
+    laid : to % 4096 + length bytes ≤ 4096 → IsStroke new name to bytes
+    laid fits =
+        one_stroke new name to bytes copy.to.items (one_of new.place.unit to (length bytes) (to + length bytes) copy.to.items refl some fits written.touched) written
+        copied.last_written
+
     moved : List ℕ
     moved = flat_map (read_bytes src.strokes) copy.from.items
 
@@ -160,17 +196,20 @@ stands_now shared src old new from to len name copy bytes copied is some = (some
 pub stands_one : (own_shared shared : Bool) (own own' own'' client' client'' : PortState) (address mark len : ℕ) (copies' copies'' : List CopyRecord) (bytes : List ℕ)
     → own_shared ≡ false → ((e : ℕ) → e < 34 → own.values e ≡ (4096 * e + 3) ∷ []) → 1 ≤ len → len ≤ 4096 → length bytes ≡ len
     → Writes own_shared own 0 bytes mark own' → OnlyWrites own own' → LaysNone own_shared own' own'' → OnlyCopies own_shared own' own''
-    → MakesOne shared own'' client' client'' 0 address len (own_name own' mark) copies' copies'' → Stands client'' address bytes
+    → MakesOne shared own'' client' client'' 0 address len (own_name own' mark) copies' copies'' → Stands client'' (own_name own mark) address bytes
 stands_one true shared own own' own'' client' client'' address mark len copies' copies'' bytes alone first some few long wrote rest none own_rest made = absurd (cc (alone))
 stands_one false shared own own' own'' client' client'' address mark len copies' copies'' bytes alone first some few long wrote rest none own_rest made =
-    stands_now shared own'' client' client'' 0 address len (own_name own' mark) made.copy bytes made.copied
+    subst (λ (name : StrokeName). Stands client'' name address bytes) (ap (λ place. record { who = place.unit; mark = mark }) rest.place)
+    (stands_now shared own'' client' client'' 0 address len (own_name own' mark) made.copy bytes made.copied
     (delivered_bytes shared own own' own'' client' client'' address mark len bytes (own_name own' mark) made.copy
     (same_first false own' own'' refl own_rest (λ e below. ap (λ values. values e) rest.values ∙ first e below)) some few long wrote none made.copied)
-    (omega (arith, some, long))
+    (omega (arith, some, long)))
 
 -- the same bytes stand in the same window, at the address of the same request
-pub stands_same : (client client' : PortState) (a b : Request) (bytes bytes' : List ℕ) → client' ≡ client → a ≡ b → bytes ≡ bytes' → Stands client a.address bytes → Stands client' b.address bytes'
-stands_same client client' a b bytes bytes' window same is = subst (λ (z : PortState × Request × List ℕ). Stands z.0 z.1.address z.2) (λ i. (sym window i, same i, is i))
+pub stands_same : (own client client' : PortState) (a b : Request) (bytes bytes' : List ℕ) → client' ≡ client → a ≡ b → bytes ≡ bytes'
+    → Stands client (own_name own a.tag) a.address bytes → Stands client' (own_name own b.tag) b.address bytes'
+stands_same own client client' a b bytes bytes' window same is =
+    subst (λ (z : PortState × Request × List ℕ). Stands z.0 (own_name own z.1.tag) z.1.address z.2) (λ i. (sym window i, same i, is i))
 
 -- ANSWERS ----------------------------------------------------------------------------------------
 
@@ -199,60 +238,3 @@ before_answer on request (stages.Given row reply) answer before = tt
 before_answer on request (stages.DataIn row reply cursor) answer before = tt
 before_answer on request (stages.Answer outcome) answer before = absurd (cc (before))
 before_answer on request (stages.Entry outcome) answer before = absurd (cc (before))
-
--- THE OLDEST REQUEST -----------------------------------------------------------------------------
-
--- an answer that is made and not yet copied is to be
-made_at : (on : LoginState) (request : Request) (stage : Stage) (made : List ℕ) → is_answered stage ≡ true → HasAnswerAt on request stage made → (outcome : Outcome) × (stage ≡ stages.Answer outcome)
-made_at on request (stages.Answer outcome) made answered has = (outcome, refl)
-made_at on request (stages.Entry outcome) made answered has = absurd has
-made_at on request stages.Start made answered has = absurd (cc (answered))
-made_at on request stages.OutTable made answered has = absurd (cc (answered))
-made_at on request stages.InTable made answered has = absurd (cc (answered))
-made_at on request (stages.DataOut cursor) made answered has = absurd (cc (answered))
-made_at on request (stages.Given row reply) made answered has = absurd (cc (answered))
-made_at on request (stages.DataIn row reply cursor) made answered has = absurd (cc (answered))
-
-put_last : (old new : EndState) (entry : Entry) → Replies old new (entry ∷ []) → IsPutLast new entry
-put_last old new entry is = λ on. (
-  old.sent,
-  old.counts.partner_session,
-  is.put ∙ ap (λ (b : Bool). old.sent ++ cond b (session_rows old.counts.partner_session (entry ∷ [])) []) (ap (λ place. place.partner_registered) (sym is.place) ∙ on),
-)
-
--- The oldest request was prepared, and then answered: its answer stands.
-pub leaves_first : {A : Type 0} (link : Bool) (unit unit2 unit' : Unit) (old mid new : SiteState) (l2 l' : List Grant) (found request : Request) (xs rest : List Request) (stage : Stage) (made : List ℕ)
-    (result : Result A NoMemory) → IsServable unit (reach_of old) link request rest → unit.pending.items ≡ found ∷ xs → Advances old mid → mid.queue ≡ old.queue
-    → unit2.pending.items ≡ unit.pending.items → unit2.service.stage ≡ stage → unit2.service.answer.items ≡ made → (is_answered stage ≡ true) ⊎ MeetsUse old mid
-    → SuitsStage unit.logins.current found.order stage → HasAnswerAt (login_state unit.logins) found stage made
-    → ((outcome : Outcome) → IsAnswerAt unit2.service.stage outcome → unit2.pending.items ≡ request ∷ rest → link ≡ false → mid.shared ≡ false → mid.queue.registered ≡ true
-    → MayWriteAnswer mid.client request.address → HasRoomFor mid.queue 1
-    → OnOk result (PutsAnswer unit2 unit' mid.queue new.queue l2 l' outcome (srp_entry (length unit2.service.answer.items) request.tag)))
-    → ((outcome : Outcome) → unit2.service.stage ≡ stages.Answer outcome → unit2.pending.items ≡ request ∷ rest → mid.shared ≡ false → MayWriteAnswer mid.client request.address
-    → OnOk result (Stands new.client request.address unit2.service.answer.items))
-    → OnOk result (LeavesAnswer unit.logins.current unit.logins.granted request.address request.tag request.order new.queue new.client)
-leaves_first link unit unit2 unit' old mid new l2 l' found request xs rest stage made (Err memory) servable front advances queue pending at made_is went suits has answers laid = tt
-leaves_first link unit unit2 unit' old mid new l2 l' found request xs rest stage made (Ok done) servable front advances queue pending at made_is went suits has answers laid = by went
-  where
-    to : OnlyReserves old.queue mid.queue
-    to = same_reserves old.queue mid.queue queue
-
-    by : (is_answered stage ≡ true) ⊎ MeetsUse old mid → LeavesAnswer unit.logins.current unit.logins.granted request.address request.tag request.order new.queue new.client
-    by (inr busy) = absurd (not_in_use old mid servable.apart busy)
-    by (inl answered) =
-        let is = made_at (login_state unit.logins) found stage made answered has in
-        let same = first_same unit.pending.items found request xs rest front servable.pending in
-        let may = may_later old mid request.address servable.apart advances servable.may in
-        let apart : mid.shared ≡ false = advances.shared ∙ servable.apart in
-        let put : PutsAnswer unit2 unit' mid.queue new.queue l2 l' is.0 (srp_entry (length unit2.service.answer.items) request.tag) =
-        answers is.0 (inl (at ∙ is.1)) (pending ∙ servable.pending) servable.alone apart (to.registered ∙ servable.registered) may
-        (slots_kept old.queue mid.queue 1 to.place (ap (λ counts. counts.partner_session) to.counts) (puts_none old.queue mid.queue to.sent) servable.slots) in
-        record {
-          outcome = is.0;
-          suits = subst (λ (r : Request). Suits unit.logins.current r.order is.0) same (suits_at unit.logins.current found.order stage is.0 (inl is.1) suits);
-          bytes = made;
-          answer = subst (λ (r : Request). IsAnswerTo unit.logins.current unit.logins.granted r.tag r.order is.0 made) same (subst (λ (s : Stage). HasAnswerAt (login_state unit.logins) found s made) is.1 has);
-          put = subst (λ (list : List ℕ). IsPutLast new.queue (srp_entry (length list) request.tag)) made_is
-              (put_last mid.queue new.queue (srp_entry (length unit2.service.answer.items) request.tag) put.put);
-          stands = subst (λ (list : List ℕ). Stands new.client request.address list) made_is (laid is.0 (at ∙ is.1) (pending ∙ servable.pending) apart may);
-        }

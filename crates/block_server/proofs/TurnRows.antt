@@ -7,32 +7,32 @@ use Rattle.vio_num.specs.declared.history.Grant.{Grant}
 use Rattle.vio_num.specs.declared.history.Served.{Served}
 use Rattle.vio_num.specs.declared.memory.NoMemory.{NoMemory}
 use Rattle.vio_num.specs.declared.names.UnitId.{UnitId}
+use Rattle.block_server.specs.Bearing.{Question, question_of}
 use Rattle.block_server.specs.Judged.{gets_row}
 use Rattle.block_server.specs.RowsOn.{AddsFor, KeepsIdleRows, RowsOn}
 use Rattle.block_server.specs.Talk.{FitOneTurn, HasHeard, HearsAll, IsListening, IsServable, IsTurnReady, MayWriteAnswer, Reach, Replies, Talk, Word, replies, talk_of}
-use Rattle.block_server.specs.declared.request.Order.{Order}
 use Rattle.block_server.specs.declared.request.Request.{Request}
 use Rattle.block_server.specs.declared.unit.Unit.{Unit}
 use Rattle.block_server.proofs.Listening.{heard_on}
 use Rattle.block_server.proofs.Talks.{AreMay, heard_still, may_all, may_known, ready_on, slots_left}
-use Rattle.block_server.proofs.TurnRanges.{asks_at, first_asks, found_same, no_first, none_alike, pending_alike}
+use Rattle.block_server.proofs.TurnRanges.{first_asks, found_same, no_first, none_alike, pending_alike}
 
 -- a request that bears the same tag and asks the same gets such a row
-adds_alike : (unit : UnitId) (first request : Request) (rows new : List Served) → asks_at first ≡ asks_at request → AddsFor unit first rows new → AddsFor unit request rows new
+adds_alike : (unit : UnitId) (first request : Request) (rows new : List Served) → question_of first ≡ question_of request → AddsFor unit first rows new → AddsFor unit request rows new
 adds_alike unit first request rows new same (inl adds) = inl (record {
-  gets = ap (λ (z : ℕ × ℕ × Order). gets_row z.2) (sym same) ∙ adds.gets;
+  gets = ap (λ (z : Question). gets_row z.order) (sym same) ∙ adds.gets;
   row = adds.row;
   added = adds.added;
   unit_is = adds.unit_is;
-  tag_is = adds.tag_is ∙ ap (λ (z : ℕ × ℕ × Order). z.1) same;
+  tag_is = adds.tag_is ∙ ap (λ (z : Question). z.tag) same;
 })
-adds_alike unit first request rows new same (inr none) = inr (ap (λ (z : ℕ × ℕ × Order). gets_row z.2) (sym same) ∙ none.0, none.1)
+adds_alike unit first request rows new same (inr none) = inr (ap (λ (z : Question). gets_row z.order) (sym same) ∙ none.0, none.1)
 
 rows_alike : (unit : UnitId) (rows new : List Served) (pending : List Request) (request : Request) (rest : List Request)
-    → ((first : Request) (others : List Request) → pending ≡ first ∷ others → AddsFor unit first rows new) → map asks_at pending ≡ map asks_at (request ∷ rest) → AddsFor unit request rows new
-rows_alike unit rows new [] request rest adds same = absurd (no_first (asks_at request) (map asks_at rest) same)
+    → ((first : Request) (others : List Request) → pending ≡ first ∷ others → AddsFor unit first rows new) → map question_of pending ≡ map question_of (request ∷ rest) → AddsFor unit request rows new
+rows_alike unit rows new [] request rest adds same = absurd (no_first (question_of request) (map question_of rest) same)
 rows_alike unit rows new (first ∷ others) request rest adds same =
-    adds_alike unit first request rows new (first_asks (asks_at first) (asks_at request) (map asks_at others) (map asks_at rest) same) (adds first others refl)
+    adds_alike unit first request rows new (first_asks (question_of first) (question_of request) (map question_of others) (map question_of rest) same) (adds first others refl)
 
 -- The steps of a turn, one behind the other: all was heard, and no row changed; and then the first request that is pending was served, if
 -- there is one.

@@ -1,6 +1,7 @@
 pub mod Advances
 pub mod Answering
 pub mod Asked
+pub mod Bearing
 pub mod Books
 pub mod Cargo
 pub mod Carried

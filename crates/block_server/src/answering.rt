@@ -1,10 +1,13 @@
 // Answering: what is put into the client's queue, and what ends a login.
 ghost use Rattle.block_server.specs.Talk.{CopiesAnswer, HasRoomFor, IsAnswerAt, IsReplied, LogsOut, MayWriteAnswer, PutsAnswer, SettlesLogins, reach_of, settled_lines};
-ghost use Rattle.std.specs.Prelude.{◌≡◌, ◌≢◌, ◌⊎◌, ◌+◌, ◌<◌, ◌∷◌, ◌++◌, ℕ, Bool, List, None, Some, IfOk, OnOk, drop, false, length, true};
+ghost use Rattle.std.specs.Prelude.{◌≡◌, ◌≢◌, ◌⊎◌, ◌+◌, ◌<◌, ◌∷◌, ◌++◌, ℕ, Bool, List, None, Some, IfOk, OnOk, drop, false, length, slice_get, true};
 ghost use Rattle.block_server.specs.Advances.{Advances};
+ghost use Rattle.block_server.specs.Bearing.{BearsIn, IsAnswerPart};
 ghost use Rattle.block_server.specs.Books.{books_at, books_of};
 ghost use Rattle.block_server.specs.Cargo.{KeepsCargo, Sight, cargo_at, cargo_of, is_loaded, rows_of};
+ghost use Rattle.block_server.specs.Copied.{own_name};
 ghost use Rattle.block_server.specs.declared.service.Service.{Service};
+ghost use Rattle.vio_num.specs.declared.history.Served.{Served};
 ghost use Rattle.vio_num.specs.declared.names.UnitId.{UnitId};
 ghost use Rattle.block_server.specs.Ends.{EndsLogin};
 ghost use Rattle.block_server.specs.Entries.{IsPlain, MayPut, is_answer_len};
@@ -382,13 +385,31 @@ pub(crate) fn answer<S: Site>(
     ensures wrote { (request : Request) → (rest : List Request) →
         unit.old.pending.items ≡ request ∷ rest → LaysIn (IsAnswerRange request)
         (client_known (S.state site.old)) (client_known (S.state site.new)) }
+    ensures bears { (request : Request) → (rest : List Request) →
+        unit.old.pending.items ≡ request ∷ rest → BearsIn (IsAnswerPart
+        (own_name (S.state site.old).own request.tag) request.address
+        unit.old.service.answer.items)
+        (client_known (S.state site.old)) (client_known (S.state site.new)) }
     ensures laid { (request : Request) → (rest : List Request) → (outcome : Outcome) →
         unit.old.service.stage ≡ Stage.Answer outcome →
         unit.old.pending.items ≡ request ∷ rest → (S.state site.old).shared ≡ false →
         MayWriteAnswer (S.state site.old).client request.address → OnOk result
-        (Stands (S.state site.new).client request.address unit.old.service.answer.items) }
+        (Stands (S.state site.new).client (own_name (S.state site.old).own request.tag)
+        request.address unit.old.service.answer.items) }
     ensures rows { KeepsLastRow (row_in unit.old.service.stage)
         records.old.history.items records.new.history.items }
+    ensures kept { is_loaded unit.old.service.stage ≡ false →
+        rows_of records.new.history.items ≡ rows_of records.old.history.items }
+    ensures settles { (request : Request) → (rest : List Request) → (place : ℕ) →
+        IsAnswerAt unit.old.service.stage (Outcome.Served place) →
+        unit.old.pending.items ≡ request ∷ rest → S.link_shared ≡ false →
+        (S.state site.old).shared ≡ false → (S.state site.old).queue.registered ≡ true →
+        MayWriteAnswer (S.state site.old).client request.address →
+        HasRoomFor (S.state site.old).queue 1 →
+        (S.state site.old).queue.place.partner_registered ≡ true → (row : Served) →
+        slice_get records.old.history.items place ≡ Some row →
+        OnOk result (slice_get records.new.history.items place ≡
+        Some (record row { answer = unit.old.service.answer.items })) }
 {
     records.make_room()?;
     unit.logins.make_room()?;
@@ -449,11 +470,17 @@ fn copy_answer<S: Site>(
     ensures wrote { (request : Request) → (rest : List Request) →
         unit.old.pending.items ≡ request ∷ rest → LaysIn (IsAnswerRange request)
         (client_known (S.state site.old)) (client_known (S.state site.new)) }
+    ensures bears { (request : Request) → (rest : List Request) →
+        unit.old.pending.items ≡ request ∷ rest → BearsIn (IsAnswerPart
+        (own_name (S.state site.old).own request.tag) request.address
+        unit.old.service.answer.items)
+        (client_known (S.state site.old)) (client_known (S.state site.new)) }
     ensures laid { (request : Request) → (rest : List Request) → (outcome : Outcome) →
         unit.old.service.stage ≡ Stage.Answer outcome →
         unit.old.pending.items ≡ request ∷ rest → (S.state site.old).shared ≡ false →
         MayWriteAnswer (S.state site.old).client request.address → OnOk result
-        (Stands (S.state site.new).client request.address unit.old.service.answer.items) }
+        (Stands (S.state site.new).client (own_name (S.state site.old).own request.tag)
+        request.address unit.old.service.answer.items) }
     ensures history { records.new.history.items ≡ records.old.history.items }
     ensures row { (outcome : Outcome) → unit.new.service.stage ≡ Stage.Entry outcome →
         row_in unit.new.service.stage ≡ row_in unit.old.service.stage }
@@ -508,9 +535,15 @@ fn deliver<S: Site>(unit: &mut Unit, site: &mut S, outcome: Outcome) -> Result<P
     ensures wrote { (request : Request) → (rest : List Request) →
         unit.old.pending.items ≡ request ∷ rest → LaysIn (IsAnswerRange request)
         (client_known (S.state site.old)) (client_known (S.state site.new)) }
+    ensures bears { (request : Request) → (rest : List Request) →
+        unit.old.pending.items ≡ request ∷ rest → BearsIn (IsAnswerPart
+        (own_name (S.state site.old).own request.tag) request.address
+        unit.old.service.answer.items)
+        (client_known (S.state site.old)) (client_known (S.state site.new)) }
     ensures laid { IfOk result (λ progress. progress ≡ Progress.Done → (request : Request) →
         (rest : List Request) → unit.old.pending.items ≡ request ∷ rest →
-        Stands (S.state site.new).client request.address unit.old.service.answer.items) }
+        Stands (S.state site.new).client (own_name (S.state site.old).own request.tag)
+        request.address unit.old.service.answer.items) }
     ensures row { row_in unit.new.service.stage ≡ row_in unit.old.service.stage }
 {
     let Some(request) = unit.pending.front() else {
@@ -570,6 +603,15 @@ fn put_answer<S: Site>(unit: &mut Unit, site: &mut S, records: &mut Records, out
     ensures client { (S.state site.new).client ≡ (S.state site.old).client }
     ensures rows { KeepsLastRow (row_in (Stage.Entry outcome))
         records.old.history.items records.new.history.items }
+    ensures kept { rows_of records.new.history.items ≡ rows_of records.old.history.items }
+    ensures settled { (request : Request) → (rest : List Request) → (place : ℕ) →
+        unit.old.pending.items ≡ request ∷ rest → S.link_shared ≡ false →
+        (S.state site.old).queue.registered ≡ true → HasRoomFor (S.state site.old).queue 1 →
+        (S.state site.old).queue.place.partner_registered ≡ true →
+        outcome ≡ Outcome.Served place → (row : Served) →
+        slice_get records.old.history.items place ≡ Some row →
+        slice_get records.new.history.items place ≡
+        Some (record row { answer = unit.old.service.answer.items }) }
 {
     let Some(request) = unit.pending.front() else {
         return;

@@ -1,10 +1,12 @@
 // The end of a command: its data-in are copied to the client, and then its answer is written.
 ghost use Rattle.block_server.specs.Talk.{SuitsStage};
-ghost use Rattle.block_server.specs.Cargo.{HasTag, IsAccounted, IsSentAll, KeepsCargo, Sight, cargo_at, seen};
+ghost use Rattle.block_server.specs.Cargo.{AreShown, HasTag, IsAccounted, IsSentAll, KeepsCargo, Sight, cargo_at, data_bytes, seen};
 ghost use Rattle.block_server.specs.Parts.{IsPlacedAt};
-ghost use Rattle.std.specs.Prelude.{◌≡◌, ◌≢◌, ◌⊎◌, ◌∷◌, ◌<◌, ℕ, Bool, List, Option, Some, None, IfOk, OnOk, false, true, length};
+ghost use Rattle.std.specs.Prelude.{◌≡◌, ◌≢◌, ◌⊎◌, ◌∷◌, ◌<◌, ℕ, Bool, List, Option, Some, None, IfOk, OnOk, false, true, length, slice_get, take};
 ghost use Rattle.block_server.specs.Advances.{Advances};
+ghost use Rattle.block_server.specs.Bearing.{BearsIn, IsDataPart};
 ghost use Rattle.block_server.specs.Causes.{IsPartOf, RefusesData, RefusesIn, Told};
+ghost use Rattle.block_server.specs.Copied.{own_name};
 ghost use Rattle.block_server.specs.Fetched.{IfDone, IfRefused};
 ghost use Rattle.block_server.specs.Granting.{LoginState};
 ghost use Rattle.block_server.specs.Judged.{ServesOne};
@@ -81,6 +83,15 @@ pub(crate) fn hand_over<S: Site>(
         (client_known (S.state site.old)) (client_known (S.state site.new)) }
     ensures unwritten { is_data_in service.old.stage ≡ false →
         client_known (S.state site.new) ≡ client_known (S.state site.old) }
+    ensures bears { (row : ℕ) → (reply : ScsiReply) → (cursor : Cursor) →
+        service.old.stage ≡ Stage.DataIn row reply cursor →
+        IsPlacedAt service.old.inn.list.items cursor →
+        AreShown (data_bytes (S.state site.old).own) service.old.given.items →
+        (before : Served) → slice_get records.old.history.items row ≡ Some before →
+        before.inn ≡ service.old.given.items → OnOk result ((after : Served) ×
+        (slice_get records.new.history.items row ≡ Some after) × BearsIn (IsDataPart
+        (own_name (S.state site.old).own request.now.tag) service.old.inn.list.items after.inn)
+        (client_known (S.state site.old)) (client_known (S.state site.new))) }
     ensures rows { KeepsLastRow (row_in service.old.stage)
         records.old.history.items records.new.history.items }
 {
@@ -122,6 +133,12 @@ fn deliver_data<S: Site>(
     ensures all { IsPlacedAt service.old.inn.list.items start →
         IfDone result (IsSentAll service.new) }
     ensures wrote { LaysIn (IsPartOf service.old.inn.list.items)
+        (client_known (S.state site.old)) (client_known (S.state site.new)) }
+    ensures bears { IsPlacedAt service.old.inn.list.items start →
+        AreShown (data_bytes (S.state site.old).own) service.old.given.items →
+        (cursor : Cursor) → service.new.stage ≡ Stage.DataIn row reply cursor → BearsIn
+        (IsDataPart (own_name (S.state site.old).own tag) service.old.inn.list.items
+        (take cursor.done service.old.given.items))
         (client_known (S.state site.old)) (client_known (S.state site.new)) }
 {
     let total = service.given.len() as u32;
@@ -173,6 +190,11 @@ fn end_command(
         OnOk result (SuitsStage current request.now.order service.new.stage) }
     ensures made { (on : LoginState) → HasAnswer on request.now service.old →
         OnOk result (HasAnswer on request.now service.new) }
+    ensures inn { (row : ℕ) → (reply : ScsiReply) → (cursor : Cursor) →
+        service.old.stage ≡ Stage.DataIn row reply cursor → (before : Served) →
+        slice_get records.old.history.items row ≡ Some before → OnOk result ((after : Served) ×
+        (slice_get records.new.history.items row ≡ Some after) × ((after.inn ≡ before.inn) ⊎
+        (after.inn ≡ take cursor.done service.old.given.items))) }
     ensures rows { KeepsLastRow (row_in service.old.stage)
         records.old.history.items records.new.history.items }
 {
@@ -222,6 +244,11 @@ fn refuse_data(
         OnOk result (SuitsStage current request.now.order service.new.stage) }
     ensures made { (on : LoginState) → HasAnswer on request.now service.old →
         OnOk result (HasAnswer on request.now service.new) }
+    ensures inn { (row : ℕ) → (reply : ScsiReply) → (cursor : Cursor) →
+        service.old.stage ≡ Stage.DataIn row reply cursor → (before : Served) →
+        slice_get records.old.history.items row ≡ Some before → OnOk result ((after : Served) ×
+        (slice_get records.new.history.items row ≡ Some after) ×
+        (after.inn ≡ take cursor.done service.old.given.items)) }
     ensures rows { KeepsLastRow (row_in service.old.stage)
         records.old.history.items records.new.history.items }
 {

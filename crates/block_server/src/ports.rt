@@ -5,7 +5,9 @@ ghost use Rattle.tce_window.specs.declared.piece.TheConstants.{MOST_BYTES};
 ghost use Rattle.vio_num.specs.declared.TheConstants.{PAGE_BYTES};
 ghost use Rattle.tce_window.specs.declared.answers.Right.TheVariants.{Read, Write};
 ghost use Rattle.tce_window.specs.PortState.{LaysNone, OnlyReads, OnlyWrites, Reads, Writes};
+ghost use Rattle.tce_window.specs.Region.{region_byte};
 ghost use Rattle.rdma_copy.specs.Copies.{OnlyCopies};
+ghost use Rattle.block_server.specs.Bearing.{BearsIn, IsShownAs};
 ghost use Rattle.block_server.specs.Causes.{IsDenied};
 ghost use Rattle.block_server.specs.Copied.{FetchesNone, IsBusy, IsMade, IsRefusal, MakesOne, copies_in, own_name};
 ghost use Rattle.block_server.specs.Advances.{Advances, KeepsFreed};
@@ -148,6 +150,12 @@ impl<C: CrqEnd, O: OwnerPort + GuestPort, R: GuestPort> Ports<'_, '_, '_, '_, C,
         ensures wrote { LaysIn (IsRange address len)
             (seen_in R.is_shared (R.state self.old.client.now))
             (seen_in R.is_shared (R.state self.new.client.now)) }
+        ensures bears { BearsIn (IsShownAs (own_name (O.state self.old.own.now) mark) address len
+            (λ k. region_byte (O.state self.old.own.now).strokes (at + k)))
+            (seen_in R.is_shared (R.state self.old.client.now))
+            (seen_in R.is_shared (R.state self.new.client.now)) }
+        ensures missed { OnErr result (seen_in R.is_shared (R.state self.new.client.now) ≡
+            seen_in R.is_shared (R.state self.old.client.now)) }
         ensures rest { OnlyCopies O.is_shared
             (O.state self.old.own.now) (O.state self.new.own.now) }
     {

@@ -274,8 +274,10 @@ impl<B: Blocks> Server<B> {
         ensures leaves { (words : List Word) → (u : UnitValue) →
             slice_get self.old.units.items unit ≡ Some u →
             IsTurnReady u (reach (C.state crq.old) (R.state client.old) R.is_shared)
-            C.is_shared words → OnOk result (LeavesOn u (C.state crq.old) words
-            (C.state crq.new) (R.state client.new)) }
+            C.is_shared words → OnOk result (LeavesOn (O.state own.old).place.unit u
+            (C.state crq.old) words (C.state crq.new) (R.state client.old)
+            (R.state client.new) self.old.records.history.items
+            self.new.records.history.items) }
         ensures rows { (words : List Word) → (u : UnitValue) →
             slice_get self.old.units.items unit ≡ Some u →
             IsTurnReady u (reach (C.state crq.old) (R.state client.old) R.is_shared)

@@ -5,8 +5,12 @@ ghost use Rattle.block_server.specs.Cargo.{AreShown, IsAccounted, IsFetchedAll, 
 ghost use Rattle.srp_desc.specs.declared.pieces.TheConstants.{MAX_DATA_LEN};
 ghost use Rattle.std.specs.Prelude.{◌≡◌, ◌≢◌, ◌⊎◌, ◌∷◌, ◌<◌, ◌≤◌, ℕ, Bool, List, Option, Some, None, [], IfSome, OnOk, false, true, length};
 ghost use Rattle.block_server.specs.Advances.{Advances};
+ghost use Rattle.block_disk.specs.declared.reply.ScsiReply.{ScsiReply};
+ghost use Rattle.block_server.specs.Bearing.{BearsRow, HasGiven};
+ghost use Rattle.block_server.specs.Parts.{IsPlacedAt};
 ghost use Rattle.block_server.specs.Causes.{Told, told_to};
 ghost use Rattle.block_server.specs.Books.{books_at, books_of};
+ghost use Rattle.block_server.specs.Copied.{own_name};
 ghost use Rattle.block_server.specs.Ends.{IsGrantable, IsRejectedFor, IsRejection};
 ghost use Rattle.block_server.specs.Fetched.{KnowsPieces};
 ghost use Rattle.block_server.specs.Granting.{LoginState, login_state};
@@ -117,8 +121,10 @@ pub(crate) fn serve<S: Site, B: Blocks>(
         (client_known (S.state site.old)) (client_known (S.state site.new)) }
     ensures leaves { (request : Request) → (rest : List Request) →
         IsServable unit.old (reach_of (S.state site.old)) S.link_shared request rest →
-        request.order ≢ Order.Logout → OnOk result (LeavesFirst unit.old.logins request
-        (S.state site.new).queue (S.state site.new).client) }
+        request.order ≢ Order.Logout → OnOk result (LeavesFirst unit.old.logins
+        (S.state site.old).own.place.unit request (S.state site.new).queue
+        (S.state site.old).client (S.state site.new).client
+        records.old.history.items records.new.history.items) }
     ensures rows { (request : Request) → (rest : List Request) →
         IsServable unit.old (reach_of (S.state site.old)) S.link_shared request rest →
         OnOk result (AddsFor unit.old.id request
@@ -230,6 +236,11 @@ fn prepare<S: Site, B: Blocks>(
         (S.state site.old).shared ≡ false → service.old.stage ≡ Stage.Start →
         LaysIn (IsDataIn (stood client) request.now.order)
         (client_known (S.state site.old)) (client_known (S.state site.new)) }
+    ensures bears { (client : PortState) → StaysKnown client (S.state site.old).client →
+        (S.state site.old).shared ≡ false → service.old.stage ≡ Stage.Start → OnOk result
+        (BearsRow (stood client) (own_name (S.state site.old).own request.now.tag)
+        request.now.order records.new.history.items (row_in service.new.stage)
+        (client_known (S.state site.old)) (client_known (S.state site.new))) }
     ensures rows { row_in service.old.stage ≡ None → OnOk result (HasLastRow id request.now
         records.old.history.items (row_in service.new.stage) records.new.history.items) }
 {
@@ -409,6 +420,11 @@ fn serve_command<S: Site, B: Blocks>(
         (S.state site.old).shared ≡ false → service.old.stage ≡ Stage.Start →
         LaysIn (IsDataIn (stood client) request.now.order)
         (client_known (S.state site.old)) (client_known (S.state site.new)) }
+    ensures bears { (client : PortState) → StaysKnown client (S.state site.old).client →
+        (S.state site.old).shared ≡ false → service.old.stage ≡ Stage.Start → OnOk result
+        (BearsRow (stood client) (own_name (S.state site.old).own request.now.tag)
+        request.now.order records.new.history.items (row_in service.new.stage)
+        (client_known (S.state site.old)) (client_known (S.state site.new))) }
     ensures rows { row_in service.old.stage ≡ None → OnOk result (HasLastRow id request.now
         records.old.history.items (row_in service.new.stage) records.new.history.items) }
 {
@@ -468,6 +484,8 @@ fn run_step<S: Site, B: Blocks>(
         OnOk result (KnowsPieces (stood client) command.now service.new) }
     ensures rows { row_in service.old.stage ≡ None → OnOk result (HasLastRow id request.now
         records.old.history.items (row_in service.new.stage) records.new.history.items) }
+    ensures given { row_in service.old.stage ≡ None → OnOk result
+        (HasGiven service.new.stage service.new.given.items records.new.history.items) }
 {
     if !service.stage.is_before_step() {
         return Ok(());
@@ -514,6 +532,14 @@ fn store<S: Site>(service: &mut Service, request: &Request, site: &mut S) -> Res
     ensures known { client_known (S.state site.new) ≡ client_known (S.state site.old) }
     ensures stood { (command : Cmd) → (client : PortState) → KnowsPieces (stood client) command
         service.old → OnOk result (KnowsPieces (stood client) command service.new) }
+    ensures stored { (row : ℕ) → (reply : ScsiReply) →
+        service.old.stage ≡ Stage.Given row reply → OnOk result ((cursor : Cursor) ×
+        (service.new.stage ≡ Stage.DataIn row reply cursor) ×
+        IsPlacedAt service.new.inn.list.items cursor ×
+        AreShown (data_bytes (S.state site.new).own) service.new.given.items ×
+        (service.new.given.items ≡ service.old.given.items) ×
+        (service.new.inn ≡ service.old.inn)) }
+    ensures unstored { is_given service.old.stage ≡ false → service.new ≡ service.old }
 {
     if let Stage::Given { row, reply } = service.stage {
         site.write_data(&service.given, request.tag)?;
@@ -570,6 +596,8 @@ fn make_step<S: Site, B: Blocks>(
         OnOk result (KnowsPieces (stood client) command.now service.new) }
     ensures rows { row_in service.old.stage ≡ None → OnOk result (HasLastRow id request.now
         records.old.history.items (row_in service.new.stage) records.new.history.items) }
+    ensures given { row_in service.old.stage ≡ None → OnOk result
+        (HasGiven service.new.stage service.new.given.items records.new.history.items) }
 {
     let Stage::DataOut(_) = service.stage else {
         return Ok(());

@@ -1,6 +1,6 @@
 // What a server unit does with its queue and with the two windows.
 ghost use Rattle.block_server.specs.Talk.{IsReadWhole, StaysKnown};
-ghost use Rattle.std.specs.Prelude.{◌≡◌, ◌↔◌, ◌+◌, ◌<◌, ◌≤◌, Bool, IsErrOf, OnErr, OnOk, false, length, true};
+ghost use Rattle.std.specs.Prelude.{◌≡◌, ◌↔◌, ◌+◌, ◌<◌, ◌≤◌, Bool, IsErrOf, OnErr, OnOk, false, length, slice_index, true};
 ghost use Rattle.crq_ring.specs.declared.TheConstants.{MAX_SLOTS};
 ghost use Rattle.tce_window.specs.declared.piece.TheConstants.{MOST_BYTES};
 ghost use Rattle.vio_num.specs.declared.TheConstants.{PAGE_BYTES};
@@ -13,7 +13,9 @@ ghost use Rattle.crq_session.specs.Answered.{Opens, HoldsUp, TellsFreed, FindsIn
 ghost use Rattle.crq_session.specs.EndState.{OnlyReserves, OnlyRegisters, OnlyFrees, OnlySends, OnlyTakes, OnlyPushes};
 ghost use Rattle.block_server.specs.Advances.{Advances};
 ghost use Rattle.block_server.specs.Answering.{responses};
+ghost use Rattle.block_server.specs.Bearing.{BearsIn, IsShownAs};
 ghost use Rattle.block_server.specs.Cargo.{AreShown, FetchesPart, SendsPart, data_bytes, pages_of};
+ghost use Rattle.block_server.specs.Copied.{own_name};
 ghost use Rattle.block_server.specs.Delivers.{DeliversOne, FetchesTo};
 ghost use Rattle.block_server.specs.Entries.{MayPut};
 ghost use Rattle.block_server.specs.LoginAnswers.{login_answers};
@@ -212,7 +214,11 @@ pub(crate) trait Site {
         ensures data { pages_of (state self.new) ≡ pages_of (state self.old) }
         ensures wrote { LaysIn (IsRange address (length bytes.now))
             (client_known (state self.old)) (client_known (state self.new)) }
-        ensures laid { OnOk result (Stands (state self.new).client address bytes.now) };
+        ensures bears { BearsIn (IsShownAs (own_name (state self.old).own mark) address
+            (length bytes.now) (slice_index bytes.now))
+            (client_known (state self.old)) (client_known (state self.new)) }
+        ensures laid { OnOk result (Stands (state self.new).client
+            (own_name (state self.old).own mark) address bytes.now) };
 
     /// Copies data from this address of the client's window to a place of the data's pages.
     fn fetch_data(&mut self, at: u32, address: u64, len: u32) -> Result<(), Halt>
@@ -271,5 +277,10 @@ pub(crate) trait Site {
         ensures sent { OnOk result
             (SendsPart (state self.old) (state self.new) at address len mark) }
         ensures wrote { LaysIn (IsRange address len)
-            (client_known (state self.old)) (client_known (state self.new)) };
+            (client_known (state self.old)) (client_known (state self.new)) }
+        ensures bears { BearsIn (IsShownAs (own_name (state self.old).own mark) address len
+            (λ k. data_bytes (state self.old).own (at + k)))
+            (client_known (state self.old)) (client_known (state self.new)) }
+        ensures missed { OnErr result
+            (client_known (state self.new) ≡ client_known (state self.old)) };
 }

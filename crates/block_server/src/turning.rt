@@ -104,8 +104,10 @@ pub(crate) fn turn<S: Site, B: Blocks>(
         (client_known (S.state site.old)) (client_known (S.state site.new))) }
     ensures leaves { (words : List Word) →
         IsTurnReady unit.old (reach_of (S.state site.old)) S.link_shared words →
-        OnOk result (LeavesOn unit.old (S.state site.old).queue words
-        (S.state site.new).queue (S.state site.new).client) }
+        OnOk result (LeavesOn (S.state site.old).own.place.unit unit.old
+        (S.state site.old).queue words (S.state site.new).queue
+        (S.state site.old).client (S.state site.new).client
+        records.old.history.items records.new.history.items) }
     ensures opens { IsNewThere unit.old (reach_of (S.state site.old)) S.link_shared →
         OnOk result (OpensOn unit.old unit.new
         (reach_of (S.state site.old)) (reach_of (S.state site.new))
@@ -190,8 +192,10 @@ fn steps<S: Site, B: Blocks>(
         (client_known (S.state site.old)) (client_known (S.state site.new))) }
     ensures leaves { (words : List Word) →
         IsTurnReady unit.old (reach_of (S.state site.old)) S.link_shared words →
-        OnOk result (LeavesOn unit.old (S.state site.old).queue words
-        (S.state site.new).queue (S.state site.new).client) }
+        OnOk result (LeavesOn (S.state site.old).own.place.unit unit.old
+        (S.state site.old).queue words (S.state site.new).queue
+        (S.state site.old).client (S.state site.new).client
+        records.old.history.items records.new.history.items) }
     ensures opens { IsNewThere unit.old (reach_of (S.state site.old)) S.link_shared →
         OnOk result (OpensOn unit.old unit.new
         (reach_of (S.state site.old)) (reach_of (S.state site.new))

@@ -36,6 +36,14 @@ use Rattle.std.proofs.Common.{inl, refl}
 use Rattle.block_server.proofs.Standing.{stands_same}
 use Rattle.block_server.proofs.LastRows.{last_at, last_on, last_same}
 use Rattle.block_server.specs.Judged.{row_in}
+use Rattle.tce_window.specs.PortState.{PortState}
+use Rattle.block_server.specs.Bearing.{IsAnswerPart}
+use Rattle.block_server.specs.Cargo.{rows_of}
+use Rattle.block_server.specs.Copied.{own_name}
+use Rattle.block_server.specs.Standing.{Stands}
+use Rattle.block_server.specs.declared.service.Outcome.TheVariants as outcomes
+use Rattle.block_server.proofs.AnswerBearing.{answer_then, settled_first}
+use Rattle.block_server.proofs.Bearing.{bears_none, bears_on, bears_same}
 use Rattle.block_server.proofs.answering.answer.Goals as goal
 
 pub returns-in_err-make_room-clause-once : goal.returns-in_err-make_room-clause-once
@@ -310,8 +318,9 @@ returns-in-Entry-clause-wrote g c = λ request rest parts.
 pub returns-in-Entry-clause-laid : goal.returns-in-Entry-clause-laid
 returns-in-Entry-clause-laid g c = λ request rest outcome at parts apart may.
     let later = may_later (g.S.Site.state c.args.site.now) (g.S.Site.state c.reserve.new.self) request.address apart c.reserve.ensures.advances may in
-    stands_same (g.S.Site.state c.copy_answer.new.site).client _ request request _ _ c.put_answer.ensures.client refl refl
-    (c.in_ok-copy_answer.ensures.laid request rest outcome at parts (c.reserve.ensures.advances.shared ∙ apart) later)
+    stands_same (g.S.Site.state c.args.site.now).own (g.S.Site.state c.copy_answer.new.site).client _ request request _ _ c.put_answer.ensures.client refl refl
+    (subst (λ (port : PortState). Stands (g.S.Site.state c.copy_answer.new.site).client (own_name port request.tag) request.address c.args.unit.now.service.answer.items) c.reserve.ensures.windows.own
+    (c.in_ok-copy_answer.ensures.laid request rest outcome at parts (c.reserve.ensures.advances.shared ∙ apart) later))
 
 pub returns-in_default-clause-laid : goal.returns-in_default-clause-laid
 returns-in_default-clause-laid g c = λ request rest outcome at parts apart may.
@@ -338,3 +347,68 @@ pub returns-in-Entry-clause-rows : goal.returns-in-Entry-clause-rows
 returns-in-Entry-clause-rows g c =
     last_on _ _ _ _ (last_same _ _ _ (c.copy_answer.ensures.history ∙ c.make_room.ensures.lists.history))
     (last_at _ _ _ _ (sym (ap row_in c.in-Entry.is) ∙ c.copy_answer.ensures.row c.in-Entry.outcome c.in-Entry.is) c.put_answer.ensures.rows)
+
+pub returns-in_err-make_room-clause-bears : goal.returns-in_err-make_room-clause-bears
+returns-in_err-make_room-clause-bears g c = λ request rest parts. bears_none _ _
+
+pub returns-in_err-make_room-2-clause-bears : goal.returns-in_err-make_room-2-clause-bears
+returns-in_err-make_room-2-clause-bears g c = λ request rest parts. bears_none _ _
+
+pub returns-in_err-reserve-clause-bears : goal.returns-in_err-reserve-clause-bears
+returns-in_err-reserve-clause-bears g c = λ request rest parts. bears_same _ _ _ (known_of (g.S.Site.state c.args.site.now) (g.S.Site.state c.reserve.new.self) c.reserve.ensures.advances.shared c.reserve.ensures.windows.client)
+
+pub returns-in_err-copy_answer-clause-bears : goal.returns-in_err-copy_answer-clause-bears
+returns-in_err-copy_answer-clause-bears g c = λ request rest parts.
+    let old = g.S.Site.state c.args.site.now in
+    let mid = g.S.Site.state c.reserve.new.self in
+    answer_then (own_name old.own request.tag) (own_name mid.own request.tag) request.address c.args.unit.now.service.answer.items _ _ _ (ap (λ (port : PortState). own_name port request.tag) c.reserve.ensures.windows.own)
+    (known_of old mid c.reserve.ensures.advances.shared c.reserve.ensures.windows.client) (c.copy_answer.ensures.bears request rest parts)
+
+pub returns-in_default-clause-bears : goal.returns-in_default-clause-bears
+returns-in_default-clause-bears g c = λ request rest parts.
+    let old = g.S.Site.state c.args.site.now in
+    let mid = g.S.Site.state c.reserve.new.self in
+    answer_then (own_name old.own request.tag) (own_name mid.own request.tag) request.address c.args.unit.now.service.answer.items _ _ _ (ap (λ (port : PortState). own_name port request.tag) c.reserve.ensures.windows.own)
+    (known_of old mid c.reserve.ensures.advances.shared c.reserve.ensures.windows.client) (c.copy_answer.ensures.bears request rest parts)
+
+pub returns-in-Entry-clause-bears : goal.returns-in-Entry-clause-bears
+returns-in-Entry-clause-bears g c = λ request rest parts.
+    let old = g.S.Site.state c.args.site.now in
+    let mid = g.S.Site.state c.reserve.new.self in
+    bears_on (IsAnswerPart (own_name old.own request.tag) request.address c.args.unit.now.service.answer.items) _ _ _
+    (answer_then (own_name old.own request.tag) (own_name mid.own request.tag) request.address c.args.unit.now.service.answer.items _ _ _ (ap (λ (port : PortState). own_name port request.tag) c.reserve.ensures.windows.own)
+    (known_of old mid c.reserve.ensures.advances.shared c.reserve.ensures.windows.client) (c.copy_answer.ensures.bears request rest parts))
+    (bears_same _ _ _ (known_of (g.S.Site.state c.copy_answer.new.site) (g.S.Site.state c.put_answer.new.site) c.put_answer.ensures.advances.shared c.put_answer.ensures.client))
+
+pub returns-in_err-make_room-clause-kept : goal.returns-in_err-make_room-clause-kept
+returns-in_err-make_room-clause-kept g c = λ not. ap rows_of c.make_room.ensures.lists.history
+
+pub returns-in_err-make_room-2-clause-kept : goal.returns-in_err-make_room-2-clause-kept
+returns-in_err-make_room-2-clause-kept g c = λ not. ap rows_of c.make_room.ensures.lists.history
+
+pub returns-in_err-reserve-clause-kept : goal.returns-in_err-reserve-clause-kept
+returns-in_err-reserve-clause-kept g c = λ not. ap rows_of c.make_room.ensures.lists.history
+
+pub returns-in_err-copy_answer-clause-kept : goal.returns-in_err-copy_answer-clause-kept
+returns-in_err-copy_answer-clause-kept g c = λ not. ap rows_of (c.copy_answer.ensures.history ∙ c.make_room.ensures.lists.history)
+
+pub returns-in_default-clause-kept : goal.returns-in_default-clause-kept
+returns-in_default-clause-kept g c = λ not. ap rows_of (c.copy_answer.ensures.history ∙ c.make_room.ensures.lists.history)
+
+pub returns-in-Entry-clause-kept : goal.returns-in-Entry-clause-kept
+returns-in-Entry-clause-kept g c = λ not. c.put_answer.ensures.kept ∙ ap rows_of (c.copy_answer.ensures.history ∙ c.make_room.ensures.lists.history)
+
+pub returns-in_default-clause-settles : goal.returns-in_default-clause-settles
+returns-in_default-clause-settles g c = λ request rest place at parts link apart on may room both row there.
+    let later = may_later (g.S.Site.state c.args.site.now) (g.S.Site.state c.reserve.new.self) request.address apart c.reserve.ensures.advances may in
+    let copied = c.in_ok-copy_answer.ensures.serves request rest (outcomes.Served place) at parts (c.reserve.ensures.advances.shared ∙ apart) later in
+    absurd (c.in_default.not-Entry (outcomes.Served place) copied.stage)
+
+pub returns-in-Entry-clause-settles : goal.returns-in-Entry-clause-settles
+returns-in-Entry-clause-settles g c = λ request rest place at parts link apart on may room both row there.
+    let later = may_later (g.S.Site.state c.args.site.now) (g.S.Site.state c.reserve.new.self) request.address apart c.reserve.ensures.advances may in
+    settled_first _ c.args.unit.now c.copy_answer.new.unit (g.S.Site.state c.args.site.now).queue (g.S.Site.state c.reserve.new.self).queue (g.S.Site.state c.copy_answer.new.site).queue _ _ (outcomes.Served place) c.in-Entry.outcome place request rest
+    c.args.records.now.history.items c.copy_answer.new.records.history.items c.put_answer.new.records.history.items row c.reserve.ensures.rest c.copy_answer.ensures.queue
+    (c.in_ok-copy_answer.ensures.serves request rest (outcomes.Served place) at parts (c.reserve.ensures.advances.shared ∙ apart) later) refl c.in-Entry.is link on room both parts
+    (c.copy_answer.ensures.history ∙ c.make_room.ensures.lists.history) there
+    (λ parts' alone on' room' both' is there'. c.put_answer.ensures.settled request rest place parts' alone on' room' both' is row there')

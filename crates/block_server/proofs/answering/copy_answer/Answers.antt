@@ -30,6 +30,7 @@ use Rattle.block_server.proofs.Servicing.{answer_is, copied_before, is_pending, 
 use Rattle.block_server.proofs.Taking.{waiting_stands}
 use Rattle.block_server.proofs.Talking.{not_in_use}
 use Rattle.block_server.proofs.RangeLaws.{lays_none}
+use Rattle.block_server.proofs.Bearing.{bears_none}
 use Rattle.block_server.proofs.answering.copy_answer.Goals as goal
 
 pub returns-in_default-clause-once : goal.returns-in_default-clause-once
@@ -224,3 +225,18 @@ returns-in_err-deliver-clause-row g c = λ outcome at. c.deliver.ensures.row
 
 pub returns-in-Busy-clause-row : goal.returns-in-Busy-clause-row
 returns-in-Busy-clause-row g c = λ outcome at. c.deliver.ensures.row
+
+pub returns-in_default-clause-bears : goal.returns-in_default-clause-bears
+returns-in_default-clause-bears g c = λ request rest parts. bears_none _ _
+
+pub returns-in_err-deliver-clause-bears : goal.returns-in_err-deliver-clause-bears
+returns-in_err-deliver-clause-bears g c = λ request rest parts. c.deliver.ensures.bears request rest parts
+
+pub returns-in-Done-clause-bears : goal.returns-in-Done-clause-bears
+returns-in-Done-clause-bears g c = λ request rest parts. c.deliver.ensures.bears request rest parts
+
+pub returns-in-Busy-clause-bears : goal.returns-in-Busy-clause-bears
+returns-in-Busy-clause-bears g c = λ request rest parts. c.deliver.ensures.bears request rest parts
+
+pub returns-in-Refused-clause-bears : goal.returns-in-Refused-clause-bears
+returns-in-Refused-clause-bears g c = λ request rest parts. c.deliver.ensures.bears request rest parts

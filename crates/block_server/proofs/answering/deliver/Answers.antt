@@ -29,6 +29,8 @@ use Rattle.block_server.proofs.RangeLaws.{answer_laid, lays_none}
 use Rattle.block_server.proofs.Servicing.{answer_few, first_same}
 use Rattle.block_server.proofs.Standing.{stands_same}
 use Rattle.block_server.proofs.LastRows.{row_same}
+use Rattle.block_server.proofs.AnswerBearing.{answer_bears}
+use Rattle.block_server.proofs.Bearing.{bears_none}
 use Rattle.block_server.proofs.answering.deliver.Goals as goal
 
 pub returns-in_default-clause-once : goal.returns-in_default-clause-once
@@ -165,8 +167,39 @@ pub returns-in-Ok-clause-laid : goal.returns-in-Ok-clause-laid
 returns-in-Ok-clause-laid g c = λ is request rest parts.
     let front = front_is _ _ c.in-Some.ensures.item.3 in
     let same : c.deref.result.now ≡ c.args.unit.now.service.answer.items = search (rules, c.deref.ensures) in
-    stands_same (g.S.Site.state c.deliver_unit.new.self).client _ c.in-Some.request.now request c.deref.result.now _ refl
+    stands_same (g.S.Site.state c.args.site.now).own (g.S.Site.state c.deliver_unit.new.self).client _ c.in-Some.request.now request c.deref.result.now _ refl
     (first_same c.args.unit.now.pending.items c.in-Some.request.now request front.0 rest front.1 parts) same c.in-Ok.ensures.laid
 
 pub returns-in-Ok-clause-row : goal.returns-in-Ok-clause-row
 returns-in-Ok-clause-row g c = row_same c.args.outcome _ _ c.requires.stage refl
+
+pub returns-in_default-clause-bears : goal.returns-in_default-clause-bears
+returns-in_default-clause-bears g c = λ request rest parts. bears_none _ _
+
+pub returns-in-Ok-clause-bears : goal.returns-in-Ok-clause-bears
+returns-in-Ok-clause-bears g c = λ request rest parts.
+    let front = front_is _ _ c.in-Some.ensures.item.3 in
+    let same : c.deref.result.now ≡ c.args.unit.now.service.answer.items = search (rules, c.deref.ensures) in
+    answer_bears (g.S.Site.state c.args.site.now).own c.in-Some.request.now request c.args.unit.now.pending.items front.0 rest c.deref.result.now c.args.unit.now.service.answer.items _ _ front.1 parts same
+    c.deliver_unit.ensures.bears
+
+pub returns-in-Err-Refused-clause-bears : goal.returns-in-Err-Refused-clause-bears
+returns-in-Err-Refused-clause-bears g c = λ request rest parts.
+    let front = front_is _ _ c.in-Some.ensures.item.3 in
+    let same : c.deref.result.now ≡ c.args.unit.now.service.answer.items = search (rules, c.deref.ensures) in
+    answer_bears (g.S.Site.state c.args.site.now).own c.in-Some.request.now request c.args.unit.now.pending.items front.0 rest c.deref.result.now c.args.unit.now.service.answer.items _ _ front.1 parts same
+    c.deliver_unit.ensures.bears
+
+pub returns-in-Err-Busy-clause-bears : goal.returns-in-Err-Busy-clause-bears
+returns-in-Err-Busy-clause-bears g c = λ request rest parts.
+    let front = front_is _ _ c.in-Some.ensures.item.3 in
+    let same : c.deref.result.now ≡ c.args.unit.now.service.answer.items = search (rules, c.deref.ensures) in
+    answer_bears (g.S.Site.state c.args.site.now).own c.in-Some.request.now request c.args.unit.now.pending.items front.0 rest c.deref.result.now c.args.unit.now.service.answer.items _ _ front.1 parts same
+    c.deliver_unit.ensures.bears
+
+pub returns-in-Err-NoMemory-clause-bears : goal.returns-in-Err-NoMemory-clause-bears
+returns-in-Err-NoMemory-clause-bears g c = λ request rest parts.
+    let front = front_is _ _ c.in-Some.ensures.item.3 in
+    let same : c.deref.result.now ≡ c.args.unit.now.service.answer.items = search (rules, c.deref.ensures) in
+    answer_bears (g.S.Site.state c.args.site.now).own c.in-Some.request.now request c.args.unit.now.pending.items front.0 rest c.deref.result.now c.args.unit.now.service.answer.items _ _ front.1 parts same
+    c.deliver_unit.ensures.bears

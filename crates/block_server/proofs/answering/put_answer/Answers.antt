@@ -43,6 +43,8 @@ use Rattle.block_server.specs.Talk.{settled_lines}
 use Rattle.block_server.proofs.Listening.{full_no}
 use Rattle.block_server.proofs.Servicing.{no_front, puts_settled, puts_turned}
 use Rattle.block_server.proofs.LastRows.{settled_last}
+use Rattle.block_server.proofs.AnswerBearing.{settled_row}
+use Rattle.block_server.proofs.Servicing.{closed_off}
 use Rattle.block_server.proofs.answering.put_answer.Goals as goal
 
 pub returns-in_default-clause-once : goal.returns-in_default-clause-once
@@ -229,3 +231,29 @@ returns-in_default-send-clause-client g c = c.send.ensures.windows.client
 
 pub returns-in-Success-clause-rows : goal.returns-in-Success-clause-rows
 returns-in-Success-clause-rows g c = settled_last c.args.outcome _ _ _ c.settle.ensures.row
+
+pub returns-in_default-clause-kept : goal.returns-in_default-clause-kept
+returns-in_default-clause-kept g c = refl
+
+pub returns-in-Dropped-clause-kept : goal.returns-in-Dropped-clause-kept
+returns-in-Dropped-clause-kept g c = refl
+
+pub returns-in-Success-clause-kept : goal.returns-in-Success-clause-kept
+returns-in-Success-clause-kept g c = c.settle.ensures.rows
+
+pub returns-in_default-send-clause-kept : goal.returns-in_default-send-clause-kept
+returns-in_default-send-clause-kept g c = refl
+
+pub returns-in_default-clause-settled : goal.returns-in_default-clause-settled
+returns-in_default-clause-settled g c = λ request rest place parts alone on room both is row there. absurd (no_front _ request rest parts (search rules))
+
+pub returns-in-Dropped-clause-settled : goal.returns-in-Dropped-clause-settled
+returns-in-Dropped-clause-settled g c = λ request rest place parts alone on room both is row there. absurd (full_no _ _ _ _ _ alone c.send.ensures.rest room c.in-Dropped.ensures.dropped)
+
+pub returns-in-Success-clause-settled : goal.returns-in-Success-clause-settled
+returns-in-Success-clause-settled g c = λ request rest place parts alone on room both is row there. settled_row c.args.outcome place _ _ _ row c.settle.ensures.row is there
+
+pub returns-in_default-send-clause-settled : goal.returns-in_default-send-clause-settled
+returns-in_default-send-clause-settled g c = λ request rest place parts alone on room both is row there.
+    let none = closed_off _ (g.S.Site.state c.args.site.now).queue (g.S.Site.state c.send.new.self).queue c.send.result alone on c.in_default-send.not-Success c.in_default-send.not-Dropped c.send.ensures.closed c.send.ensures.unregistered in
+    absurd (cc (both, none))

@@ -24,6 +24,7 @@ use Rattle.block_server.proofs.Denying.{tells_first, tells_next}
 use Rattle.block_server.specs.Causes.{IsPartOf}
 use Rattle.block_server.specs.Ranges.{client_known}
 use Rattle.block_server.proofs.RangeLaws.{one_part, part_laid}
+use Rattle.block_server.proofs.BearingParts.{borne_at, part_sent}
 use Rattle.block_server.proofs.handing.deliver_data.Goals as goal
 
 pub returns-in-Err-Refused-clause-advances : goal.returns-in-Err-Refused-clause-advances
@@ -49,6 +50,16 @@ loop-part-preserved g c = record {
       c.in-Some-address.address c.in-Some.part.len
       (one_part c.as_slice.result.now c.args.service.now.inn.list.items c.in-Some.part.address c.in-Some-address.address c.in-Some.part.len c.in-Some-address.is
       (c.as_slice.ensures ∙ ap (λ (pieces : DataPieces). pieces.list.items) c.loop-part.invariant.inn) c.in-Some.ensures.piece) c.loop-part.invariant.wrote c.deliver_data.ensures.wrote;
+  shown = c.deliver_data.ensures.data ∙ c.loop-part.invariant.shown;
+  bears = λ placed are.
+      let pieces : c.as_slice.result.now ≡ c.args.service.now.inn.list.items = c.as_slice.ensures ∙ ap (λ (pieces : DataPieces). pieces.list.items) c.loop-part.invariant.inn in
+      part_sent (g.S.Site.state c.loop-part.site).own (g.S.Site.state c.args.site.now).own c.args.tag c.as_slice.result.now c.args.service.now.inn.list.items
+      c.args.service.now.given.items c.in-Some.part.at c.loop-part.cursor.done c.in-Some.part.address c.in-Some-address.address c.in-Some.part.len c.in-Some.part.end.done
+      c.len-total.result (client_known (g.S.Site.state c.args.site.now)) (client_known (g.S.Site.state c.loop-part.site)) (client_known (g.S.Site.state c.deliver_data.new.self))
+      c.loop-part.invariant.advances.own_place c.loop-part.invariant.shown pieces c.in-Some-address.is
+      (c.in-Some.ensures.there (subst (λ (list : List Desc). IsPlacedAt list c.loop-part.cursor) (sym pieces) (c.loop-part.invariant.placed placed)))
+      c.in-Some.ensures.at c.in-Some.ensures.within (omega (arith, c.len-total.ensures)) c.in-Some.ensures.end are
+      (c.loop-part.invariant.bears placed are) c.deliver_data.ensures.bears;
   placed = λ placed.
       subst (λ (list : List Desc). IsPlacedAt list c.loop-part.cursor → IsPlacedAt list c.in-Some.part.end)
       (c.as_slice.ensures ∙ ap (λ (pieces : DataPieces). pieces.list.items) c.loop-part.invariant.inn) c.in-Some.ensures.placed (c.loop-part.invariant.placed placed);
@@ -125,3 +136,19 @@ returns-in-Err-NoMemory-clause-wrote g c =
     c.in-Some-address.address c.in-Some.part.len
     (one_part c.as_slice.result.now c.args.service.now.inn.list.items c.in-Some.part.address c.in-Some-address.address c.in-Some.part.len c.in-Some-address.is
     (c.as_slice.ensures ∙ ap (λ (pieces : DataPieces). pieces.list.items) c.loop-part.invariant.inn) c.in-Some.ensures.piece) c.loop-part.invariant.wrote c.deliver_data.ensures.wrote
+
+pub returns-in-Err-Refused-clause-bears : goal.returns-in-Err-Refused-clause-bears
+returns-in-Err-Refused-clause-bears g c = λ placed are cursor is.
+    borne_at _ _ _ _ c.args.row c.args.reply c.loop-part.cursor cursor _ _ _ c.loop-part.invariant.stage is c.in-Err-Refused.ensures.missed (c.loop-part.invariant.bears placed are)
+
+pub returns-in-Err-Busy-clause-bears : goal.returns-in-Err-Busy-clause-bears
+returns-in-Err-Busy-clause-bears g c = λ placed are cursor is.
+    borne_at _ _ _ _ c.args.row c.args.reply c.loop-part.cursor cursor _ _ _ c.loop-part.invariant.stage is c.in-Err-Busy.ensures.missed (c.loop-part.invariant.bears placed are)
+
+pub returns-in-Err-NoMemory-clause-bears : goal.returns-in-Err-NoMemory-clause-bears
+returns-in-Err-NoMemory-clause-bears g c = λ placed are cursor is.
+    borne_at _ _ _ _ c.args.row c.args.reply c.loop-part.cursor cursor _ _ _ c.loop-part.invariant.stage is c.in-Err-NoMemory.ensures.missed (c.loop-part.invariant.bears placed are)
+
+pub returns-clause-bears : goal.returns-clause-bears
+returns-clause-bears g c = λ placed are cursor is.
+    borne_at _ _ _ _ c.args.row c.args.reply c.loop-part.cursor cursor _ _ _ c.loop-part.invariant.stage is refl (c.loop-part.invariant.bears placed are)

@@ -3,12 +3,14 @@ use Rattle.srp_iu.specs.declared.command.Cmd.{Cmd}
 use Rattle.std.proofs.Common.{Bool, List}
 use Rattle.vio_num.specs.declared.history.Served.{Served}
 use Rattle.vio_num.specs.declared.names.UnitId.{UnitId}
-use Rattle.block_server.specs.Cargo.{HasTag, IsAccounted, cargo_at, seen}
+use Rattle.block_server.specs.Cargo.{AreShown, HasTag, IsAccounted, cargo_at, data_bytes, seen}
+use Rattle.block_server.specs.Bearing.{BearsIn, IsDataPart}
+use Rattle.block_server.specs.Copied.{own_name}
 use Rattle.block_server.specs.Causes.{IsPartOf, Told}
 use Rattle.block_server.specs.Ranges.{LaysIn, client_known}
 use Rattle.block_server.specs.Heard.{TellsAll}
 use Rattle.block_server.specs.Parts.{IsPlacedAt}
-use Rattle.std.proofs.Common.{◌≡◌, ◌-◌}
+use Rattle.std.proofs.Common.{◌≡◌, ◌-◌, take}
 use Rattle.block_server.specs.Advances.{Advances}
 use Rattle.block_server.specs.Moves.{Passes}
 use Rattle.block_server.specs.declared.service.Stage.TheVariants.{DataIn}
@@ -25,6 +27,9 @@ invariant-loop-part g l = record {
   queue : (g.S.Site.state l.site).queue ≡ (g.S.Site.state l.fn.site).queue;
   passes : Passes (g.S.Site.state l.fn.site) (g.S.Site.state l.site);
   wrote : LaysIn (IsPartOf l.fn.service.inn.list.items) (client_known (g.S.Site.state l.fn.site)) (client_known (g.S.Site.state l.site));
+  shown : data_bytes (g.S.Site.state l.site).own ≡ data_bytes (g.S.Site.state l.fn.site).own;
+  bears : IsPlacedAt l.fn.service.inn.list.items l.fn.start → AreShown (data_bytes (g.S.Site.state l.fn.site).own) l.fn.service.given.items
+      → BearsIn (IsDataPart (own_name (g.S.Site.state l.fn.site).own l.tag) l.fn.service.inn.list.items (take l.cursor.done l.fn.service.given.items)) (client_known (g.S.Site.state l.fn.site)) (client_known (g.S.Site.state l.site));
   placed : IsPlacedAt l.fn.service.inn.list.items l.fn.start → IsPlacedAt l.fn.service.inn.list.items l.cursor;
   cargo : (id : UnitId) (told : Told → Bool) (asked : Bool) → TellsAll told id (g.S.Site.state l.fn.site) (g.S.Site.state l.site) → (rows : List Served) → HasTag rows l.row l.tag → (first : Option Cmd)
       → IsAccounted told asked (cargo_at id l.fn.service (seen first (g.S.Site.state l.fn.site)) rows) → IsAccounted told asked (cargo_at id l.service (seen first (g.S.Site.state l.site)) rows);

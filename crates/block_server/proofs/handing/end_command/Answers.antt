@@ -16,19 +16,23 @@ use Rattle.block_server.specs.Judged.{gets_row}
 use Rattle.block_server.proofs.Servicing.{served_suits}
 use Rattle.block_server.proofs.Standing.{answer_set, answers_tag}
 use Rattle.block_server.proofs.LastRows.{last_same}
+use Rattle.std.proofs.Common.{inl, take}
+use Rattle.block_server.proofs.BearingRows.{any_cut, any_whole}
 use Rattle.block_server.proofs.handing.end_command.Goals as goal
 
 pub returns-in_default : goal.returns-in_default
-returns-in_default c = record { rows = last_same _ _ _ refl; made = λ granted old. old; suits = λ current old. old; cargo = λ id shown done. keeps_same _ _ refl; row = refl; states = refl; grants = refl; books = λ id session. one_same _ _ _ _ _ _ _ refl refl; once = λ id credits rest q disk cause serving. once_same _ _ _ _ _ _ refl refl refl disk serving; went = λ inn apart. not_data_in _ _ (λ row reply cursor is. c.in_default.not-DataIn row reply cursor is) inn }
+returns-in_default c = record { inn = λ row reply cursor is before there. absurd (c.in_default.not-DataIn row reply cursor is); rows = last_same _ _ _ refl; made = λ granted old. old; suits = λ current old. old; cargo = λ id shown done. keeps_same _ _ refl; row = refl; states = refl; grants = refl; books = λ id session. one_same _ _ _ _ _ _ _ refl refl; once = λ id credits rest q disk cause serving. once_same _ _ _ _ _ _ refl refl refl disk serving; went = λ inn apart. not_data_in _ _ (λ row reply cursor is. c.in_default.not-DataIn row reply cursor is) inn }
 
 pub returns-in-Busy : goal.returns-in-Busy
-returns-in-Busy c = record { rows = last_same _ _ _ refl; made = λ granted old. old; suits = λ current old. old; cargo = λ id shown done. keeps_same _ _ refl; row = refl; states = refl; grants = refl; books = λ id session. one_same _ _ _ _ _ _ _ refl refl; once = λ id credits rest q disk cause serving. once_same _ _ _ _ _ _ refl refl refl disk serving; went = λ inn apart. absurd (apart c.in-Busy.is) }
+returns-in-Busy c = record { inn = λ row reply cursor is before there. (before, there, inl refl); rows = last_same _ _ _ refl; made = λ granted old. old; suits = λ current old. old; cargo = λ id shown done. keeps_same _ _ refl; row = refl; states = refl; grants = refl; books = λ id session. one_same _ _ _ _ _ _ _ refl refl; once = λ id credits rest q disk cause serving. once_same _ _ _ _ _ _ refl refl refl disk serving; went = λ inn apart. absurd (apart c.in-Busy.is) }
 
 pub returns-in-Refused : goal.returns-in-Refused
-returns-in-Refused c = record { rows = c.refuse_data.ensures.rows; made = c.refuse_data.ensures.made; suits = c.refuse_data.ensures.suits; cargo = λ id shown done. c.refuse_data.ensures.cargo id shown; row = c.refuse_data.ensures.row; states = c.refuse_data.ensures.states; grants = c.refuse_data.ensures.grants; books = c.refuse_data.ensures.books; once = λ id credits rest q disk cause serving. c.refuse_data.ensures.once id credits rest q disk (cause c.in-Refused.is) serving; went = on_ok c.refuse_data.result _ _ (λ went inn apart. went inn) c.refuse_data.ensures.went }
+returns-in-Refused c = record { inn = λ row reply cursor is before there. any_cut c.refuse_data.result c.refuse_data.new.records.history.items row before (take cursor.done c.args.service.now.given.items) (c.refuse_data.ensures.inn row reply cursor is before there); rows = c.refuse_data.ensures.rows; made = c.refuse_data.ensures.made; suits = c.refuse_data.ensures.suits; cargo = λ id shown done. c.refuse_data.ensures.cargo id shown; row = c.refuse_data.ensures.row; states = c.refuse_data.ensures.states; grants = c.refuse_data.ensures.grants; books = c.refuse_data.ensures.books; once = λ id credits rest q disk cause serving. c.refuse_data.ensures.once id credits rest q disk (cause c.in-Refused.is) serving; went = on_ok c.refuse_data.result _ _ (λ went inn apart. went inn) c.refuse_data.ensures.went }
 
 pub returns-in-Done : goal.returns-in-Done
 returns-in-Done c = record {
+  inn = λ row reply cursor is before there.
+      any_whole c.set_answer.result c.args.records.now.history.items row before (take cursor.done c.args.service.now.given.items) there;
   rows = last_same _ _ _ refl;
   made = λ granted old.
       let same : c.deref.result.now ≡ c.with_status.result.items = search (rules, c.deref.ensures) in

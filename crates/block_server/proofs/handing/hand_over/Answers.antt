@@ -23,6 +23,8 @@ use Rattle.block_server.specs.declared.service.Stage.{Stage}
 use Rattle.block_server.proofs.LastRows.{last_at, last_same}
 use Rattle.block_server.specs.Judged.{row_in}
 use Rattle.std.proofs.Common.{◌∙◌}
+use Rattle.block_server.specs.Copied.{own_name}
+use Rattle.block_server.proofs.BearingRows.{hand_borne}
 use Rattle.block_server.proofs.handing.hand_over.Goals as goal
 
 pub returns-in_default-clause-once : goal.returns-in_default-clause-once
@@ -123,3 +125,14 @@ returns-in_err-progress-clause-rows g c = last_same _ _ _ refl
 
 pub returns-clause-rows : goal.returns-clause-rows
 returns-clause-rows g c = last_at _ _ _ _ (ap row_in c.deliver_data.ensures.stage.1 ∙ sym (ap row_in c.in-DataIn.is)) c.end_command.ensures.rows
+
+pub returns-in_default-clause-bears : goal.returns-in_default-clause-bears
+returns-in_default-clause-bears g c = λ row reply cursor is placed are before there all. absurd (c.in_default.not-DataIn row reply cursor is)
+
+pub returns-clause-bears : goal.returns-clause-bears
+returns-clause-bears g c = λ row reply cursor is placed are.
+    hand_borne c.end_command.result (own_name (g.S.Site.state c.args.site.now).own c.args.request.now.tag) c.args.service.now.inn.list.items c.args.service.now.given.items
+    c.deliver_data.new.service.given.items c.args.service.now.stage c.in-DataIn.row c.in-DataIn.reply c.in-DataIn.cursor c.deliver_data.ensures.stage.0
+    c.args.records.now.history.items c.end_command.new.records.history.items _ _ c.in-DataIn.is c.deliver_data.ensures.given
+    (λ here. c.deliver_data.ensures.bears here are c.deliver_data.ensures.stage.0 c.deliver_data.ensures.stage.1)
+    (c.end_command.ensures.inn c.in-DataIn.row c.in-DataIn.reply c.deliver_data.ensures.stage.0 c.deliver_data.ensures.stage.1) row reply cursor is placed

@@ -18,13 +18,15 @@ use Rattle.block_server.specs.Judged.{gets_row}
 use Rattle.block_server.proofs.Servicing.{served_suits}
 use Rattle.block_server.proofs.Standing.{answer_at_now, answers_tag}
 use Rattle.block_server.proofs.LastRows.{filled_last, last_at, last_same}
+use Rattle.block_server.proofs.BearingRows.{cut_row}
 use Rattle.block_server.proofs.handing.refuse_data.Goals as goal
 
 pub returns-in_default : goal.returns-in_default
-returns-in_default c = record { rows = last_same _ _ _ refl; made = λ granted old. old; suits = λ current old. old; cargo = λ id shown. keeps_same _ _ refl; row = refl; states = refl; grants = refl; books = λ id session. one_same _ _ _ _ _ _ _ refl refl; once = λ id credits rest q disk cause serving. once_same _ _ _ _ _ _ refl refl refl disk serving; went = λ inn. not_data_in _ _ (λ row reply cursor is. c.in_default.not-DataIn row reply cursor is) inn }
+returns-in_default c = record { inn = λ row reply cursor is before there. absurd (c.in_default.not-DataIn row reply cursor is); rows = last_same _ _ _ refl; made = λ granted old. old; suits = λ current old. old; cargo = λ id shown. keeps_same _ _ refl; row = refl; states = refl; grants = refl; books = λ id session. one_same _ _ _ _ _ _ _ refl refl; once = λ id credits rest q disk cause serving. once_same _ _ _ _ _ _ refl refl refl disk serving; went = λ inn. not_data_in _ _ (λ row reply cursor is. c.in_default.not-DataIn row reply cursor is) inn }
 
 pub returns-in_err-set_answer : goal.returns-in_err-set_answer
 returns-in_err-set_answer c = record {
+  inn = λ row reply cursor is before there. search rules;
   rows = last_same _ _ _ refl;
   made = λ granted old. search rules;
   suits = λ current old. search rules;
@@ -42,6 +44,8 @@ returns-in_err-set_answer c = record {
 
 pub returns : goal.returns
 returns c = record {
+  inn = cut_row c.args.service.now.stage c.in-DataIn.row c.in-DataIn.reply c.in-DataIn.cursor c.args.service.now.given.items c.take_given-inn.result _ _ c.in-DataIn.is
+      (c.take_given-inn.ensures.given ∙ (λ i. take (c.done.ensures i) (c.set_answer.ensures.given i).items)) c.fill.ensures.row;
   rows = last_at _ _ _ _ (sym (ap row_in c.in-DataIn.is)) (filled_last c.in-DataIn.row _ _ _ c.fill.ensures.row);
   made = λ granted old.
       let same : c.deref.result.now ≡ c.with_code.result.items = search (rules, c.deref.ensures) in

@@ -26,6 +26,7 @@ use Rattle.block_server.proofs.Hands.{keeps_same}
 use Rattle.std.specs.Prelude.{slice_index}
 use Rattle.block_server.specs.Standing.{stood}
 use Rattle.block_server.proofs.LastRows.{none_added}
+use Rattle.block_server.proofs.BearingRows.{given_added, no_given}
 use Rattle.block_server.proofs.serving.make_step.Goals as goal
 
 pub returns-in_default-clause-once : goal.returns-in_default-clause-once
@@ -195,3 +196,14 @@ returns-clause-rows g c = λ none.
       unit_is = blank.unit_is;
       iu_is = blank.iu;
     }
+
+pub returns-in_default-clause-given : goal.returns-in_default-clause-given
+returns-in_default-clause-given g c = λ none. no_given _ _ _ none
+
+pub returns-clause-given : goal.returns-clause-given
+returns-clause-given g c = λ none.
+    let row : ServedRow = record c.in_ok-row.row { out = c.from.result; inn = c.filled.result; fault = c.execute-reply.result.fault } in
+    given_added c.args.records.now.history.items c.add_row-row.new.self.history.items row c.add_row-row.result c.keep.new.self.given.items
+    (c.add_row-row.ensures.place ∙ ap length c.new_row.ensures.lists.history)
+    (c.add_row-row.ensures.history ∙ ap (λ (list : List ServedRow). list ++ row ∷ []) c.new_row.ensures.lists.history)
+    (c.filled.ensures ∙ sym (c.keep.ensures.given ∙ ap (λ (xs : List ℕ). xs ++ c.given-given.result.now) c.make_room.ensures.none))

@@ -19,6 +19,8 @@ use Rattle.block_server.proofs.Servicing.{login_suits}
 use Rattle.block_server.proofs.RangeLaws.{lays_none}
 use Rattle.block_server.proofs.LastRows.{any_added, coded_last, none_added}
 use Rattle.block_server.proofs.Readying.{on_both}
+use Rattle.std.proofs.Common.{inl}
+use Rattle.block_server.proofs.CommandBearing.{row_unlaid}
 use Rattle.block_server.proofs.serving.prepare.Goals as goal
 
 pub returns-in-Command-clause-once : goal.returns-in-Command-clause-once
@@ -240,3 +242,21 @@ returns-in-Logout-clause-rows g c = λ none. none_added _ _ _ _ none
 
 pub returns-in_default-clause-rows : goal.returns-in_default-clause-rows
 returns-in_default-clause-rows g c = λ none. none_added _ _ _ _ none
+
+pub returns-in-Command-clause-bears : goal.returns-in-Command-clause-bears
+returns-in-Command-clause-bears g c = c.serve_command.ensures.bears
+
+pub returns-in_default-clause-bears : goal.returns-in_default-clause-bears
+returns-in_default-clause-bears g c = λ client same alone start. inl refl
+
+pub returns-in-Login-clause-bears : goal.returns-in-Login-clause-bears
+returns-in-Login-clause-bears g c = λ client same alone start. row_unlaid _ _ _ _ _ _ _ c.judge_login.result refl
+
+pub returns-in-Task-clause-bears : goal.returns-in-Task-clause-bears
+returns-in-Task-clause-bears g c = λ client same alone start. row_unlaid _ _ _ _ _ _ _ c.add_code.result refl
+
+pub returns-in-Unreadable-clause-bears : goal.returns-in-Unreadable-clause-bears
+returns-in-Unreadable-clause-bears g c = λ client same alone start. row_unlaid _ _ _ _ _ _ _ c.add_code-in-Unreadable.result refl
+
+pub returns-in-Logout-clause-bears : goal.returns-in-Logout-clause-bears
+returns-in-Logout-clause-bears g c = λ client same alone start. inl refl

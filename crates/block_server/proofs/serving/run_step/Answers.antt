@@ -25,6 +25,7 @@ use Rattle.block_server.specs.Standing.{stood}
 use Rattle.block_server.proofs.Stood.{knows_answered}
 use Rattle.block_server.proofs.LastRows.{coded_last, none_added, none_before}
 use Rattle.block_server.proofs.Readying.{on_both}
+use Rattle.block_server.proofs.BearingRows.{answer_given, no_given}
 use Rattle.block_server.proofs.serving.run_step.Goals as goal
 
 pub returns-then-not-is_before_step-clause-once : goal.returns-then-not-is_before_step-clause-once
@@ -250,3 +251,19 @@ pub returns-in-Done-clause-rows : goal.returns-in-Done-clause-rows
 returns-in-Done-clause-rows g c = λ none.
     let before : is_before_step c.args.service.now.stage ≡ true = cc in
     c.make_step.ensures.rows (none_before _ (c.fetch.ensures.before before))
+
+pub returns-then-not-is_before_step-clause-given : goal.returns-then-not-is_before_step-clause-given
+returns-then-not-is_before_step-clause-given g c = λ none. no_given _ _ _ none
+
+pub returns-in-Busy-clause-given : goal.returns-in-Busy-clause-given
+returns-in-Busy-clause-given g c = λ none.
+    let before : is_before_step c.args.service.now.stage ≡ true = cc in
+    no_given _ _ _ (none_before _ (c.fetch.ensures.before before))
+
+pub returns-in-Refused-clause-given : goal.returns-in-Refused-clause-given
+returns-in-Refused-clause-given g c = λ none. on_ok c.add_code.result _ _ (λ stage. answer_given _ _ _ _ stage) c.add_code.ensures.stage
+
+pub returns-in-Done-clause-given : goal.returns-in-Done-clause-given
+returns-in-Done-clause-given g c = λ none.
+    let before : is_before_step c.args.service.now.stage ≡ true = cc in
+    c.make_step.ensures.given (none_before _ (c.fetch.ensures.before before))

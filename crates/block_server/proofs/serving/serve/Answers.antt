@@ -59,7 +59,8 @@ use Rattle.block_server.specs.Ranges.{MayWrite}
 use Rattle.block_server.proofs.RangeLaws.{lays_none, lays_on, prepared_within, wider_answer}
 use Rattle.block_server.specs.Standing.{HasAnswerAt}
 use Rattle.block_server.specs.declared.service.Stage.{Stage}
-use Rattle.block_server.proofs.Standing.{leaves_first}
+use Rattle.block_server.proofs.Leaving.{leaves_first}
+use Rattle.block_server.proofs.Reading.{known_same}
 use Rattle.block_server.specs.Standing.{stood}
 use Rattle.block_server.proofs.LastRows.{adds_first}
 use Rattle.block_server.specs.Judged.{row_in}
@@ -449,13 +450,19 @@ returns-in-Logout-clause-leaves g c = λ request rest servable other.
 pub returns-clause-leaves : goal.returns-clause-leaves
 returns-clause-leaves g c = λ request rest servable other.
     let front = front_is _ _ c.in-Some.ensures.item.3 in
-    leaves_first _ c.args.unit.now c.note_stage.new.unit c.answer.new.unit (g.S.Site.state c.args.site.now) (g.S.Site.state c.prepare.new.site) (g.S.Site.state c.answer.new.site) _ _ c.in-Some.request.now request front.0 rest
-    c.prepare.new.service.stage c.prepare.new.service.answer.items c.answer.result servable front.1 c.prepare.ensures.advances c.prepare.ensures.queue c.note_stage.ensures.pending
+    leaves_first _ c.args.unit.now c.note_stage.new.unit c.answer.new.unit c.args.unit.now.id (g.S.Site.state c.args.site.now) (g.S.Site.state c.prepare.new.site) (g.S.Site.state c.answer.new.site) _ _
+    c.args.records.now.history.items c.prepare.new.records.history.items c.answer.new.records.history.items c.in-Some.request.now request front.0 rest
+    c.prepare.new.service.stage c.prepare.new.service.answer.items c.answer.result servable front.1 c.prepare.ensures.advances c.answer.ensures.advances c.prepare.ensures.queue c.note_stage.ensures.pending
     (ap (λ (s : Service). s.stage) c.note_stage.ensures.service) (ap (λ (s : Service). s.answer.items) c.note_stage.ensures.service) (c.in_ok-prepare.ensures.went (λ is. search rules))
     (c.in_ok-prepare.ensures.suits (subst (SuitsStage c.args.unit.now.logins.current c.in-Some.request.now.order) (sym servable.stage) tt))
     (c.in_ok-prepare.ensures.made (subst (λ (stage : Stage). HasAnswerAt (login_state c.args.unit.now.logins) c.in-Some.request.now stage c.args.unit.now.service.answer.items) (sym servable.stage) tt))
+    (c.in_ok-prepare.ensures.rows (ap row_in servable.stage)) c.answer.ensures.rows
+    (c.in_ok-prepare.ensures.bears (g.S.Site.state c.args.site.now).client (known_same (g.S.Site.state c.args.site.now).client) servable.apart servable.stage)
     (λ outcome at parts link apart on may room. c.answer.ensures.serves request rest outcome at parts link apart on may room)
     (λ outcome at parts apart may. c.answer.ensures.laid request rest outcome at parts apart may)
+    (λ place at parts link apart on may room both row there. c.answer.ensures.settles request rest place at parts link apart on may room both row there)
+    (λ not. c.answer.ensures.kept not)
+    (λ parts. c.answer.ensures.bears request rest parts)
 
 pub returns-in_default-clause-placed : goal.returns-in_default-clause-placed
 returns-in_default-clause-placed g c = λ client same alone start request rest parts. lays_none _ _

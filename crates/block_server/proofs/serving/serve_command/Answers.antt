@@ -21,6 +21,16 @@ use Rattle.block_server.specs.Standing.{stood}
 use Rattle.block_server.specs.declared.service.Stage.TheVariants.{Start}
 use Rattle.block_server.proofs.Stood.{knows_at, placed_within}
 use Rattle.block_server.proofs.LastRows.{served_last}
+use Rattle.std.proofs.Common.{◌≡◌, OnOk, Some, slice_get}
+use Rattle.vio_num.specs.declared.history.Served.{Served as ServedRow}
+use Rattle.page_slots.specs.declared.stroke.StrokeName.{StrokeName}
+use Rattle.tce_window.specs.PortState.{PortPlace}
+use Rattle.block_server.specs.Bearing.{BearsIn, IsDataPart}
+use Rattle.block_server.specs.Cargo.{data_bytes}
+use Rattle.block_server.specs.Copied.{own_name}
+use Rattle.block_server.specs.Owed.{row_in}
+use Rattle.block_server.specs.declared.service.Service.{Service}
+use Rattle.block_server.proofs.CommandBearing.{row_bears, handed_at}
 use Rattle.block_server.proofs.serving.serve_command.Goals as goal
 
 pub returns-in_err-run_step-clause-once : goal.returns-in_err-run_step-clause-once
@@ -152,3 +162,23 @@ returns-clause-placed g c = λ client same alone start.
 pub returns-clause-rows : goal.returns-clause-rows
 returns-clause-rows g c = λ none.
     served_last c.args.id c.args.request.now _ _ _ _ _ _ c.hand_over.result (c.in_ok-run_step.ensures.rows none) c.store.ensures.row c.hand_over.ensures.row c.hand_over.ensures.rows
+
+pub returns-clause-bears : goal.returns-clause-bears
+returns-clause-bears g c = λ client same alone start.
+    let old = g.S.Site.state c.args.site.now in
+    let stepped = g.S.Site.state c.run_step.new.site in
+    let stored = g.S.Site.state c.store.new.site in
+    let new = g.S.Site.state c.hand_over.new.site in
+    let known = knows_at (stood client) c.args.command.now c.args.service.now.stage Start c.args.service.now.out.list.items c.args.service.now.inn.list.items start tt in
+    let own : own_name stored.own c.args.request.now.tag ≡ own_name old.own c.args.request.now.tag =
+    ap (λ (place : PortPlace). record { who = place.unit; mark = c.args.request.now.tag }) (c.store.ensures.advances.own_place ∙ c.run_step.ensures.advances.own_place) in
+    row_bears (stood client) (own_name old.own c.args.request.now.tag) c.args.command.now c.args.request.now.order c.store.new.service.stage c.hand_over.new.service.stage
+    c.store.new.service.out.list.items c.store.new.service.inn.list.items c.hand_over.new.records.history.items
+    (client_known old) (client_known stored) (client_known new) c.hand_over.result c.requires.asked
+    (c.in_ok-store.ensures.stood c.args.command.now client (c.in_ok-run_step.ensures.stood client same alone known))
+    (c.store.ensures.known ∙ c.run_step.ensures.known) c.hand_over.ensures.row c.hand_over.ensures.unwritten
+    (λ row reply cursor at.
+    let is = handed_at (data_bytes stored.own) c.run_step.new.service.stage c.store.new.service.stage c.store.new.service.inn.list.items c.run_step.new.service.given.items c.store.new.service.given.items
+    c.run_step.new.records.history.items (c.in_ok-run_step.ensures.given (ap row_in start)) (λ r reply' was. let z = c.in_ok-store.ensures.stored r reply' was in (z.0, z.1, z.2, z.3, z.4)) (λ not. ap (λ (s : Service). s.stage) (c.store.ensures.unstored not)) row reply cursor at in
+    subst (λ (name : StrokeName). OnOk c.hand_over.result ((after : ServedRow) × (slice_get c.hand_over.new.records.history.items row ≡ Some after) × BearsIn (IsDataPart name c.store.new.service.inn.list.items after.inn) (client_known stored) (client_known new))) own
+    (c.hand_over.ensures.bears row reply cursor at is.placed is.shows is.before is.there is.inn_is))

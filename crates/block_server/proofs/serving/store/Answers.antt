@@ -14,6 +14,8 @@ use Rattle.block_server.specs.Cargo.{AreShown}
 use Rattle.block_server.proofs.ComingStages.{other_entry}
 use Rattle.block_server.specs.Standing.{stood}
 use Rattle.block_server.proofs.Stood.{knows_then}
+use Rattle.block_server.specs.Stage.{is_given}
+use Rattle.block_server.proofs.BearingRows.{stored_at}
 use Rattle.block_server.proofs.serving.store.Goals as goal
 
 pub returns-in_err-write_data-clause-once : goal.returns-in_err-write_data-clause-once
@@ -81,3 +83,21 @@ returns-in_default-clause-stood g c = λ command client known. known
 pub returns-in_ok-write_data-clause-stood : goal.returns-in_ok-write_data-clause-stood
 returns-in_ok-write_data-clause-stood g c = λ command client known.
     knows_then (stood client) command _ (Given c.in-Given.row c.in-Given.reply) c.args.service.now.out.list.items c.args.service.now.inn.list.items c.in-Given.is known
+
+pub returns-in_ok-write_data-clause-stored : goal.returns-in_ok-write_data-clause-stored
+returns-in_ok-write_data-clause-stored g c =
+    let same : c.deref.result.now ≡ c.args.service.now.given.items = search (rules, c.deref.ensures) in
+    stored_at c.args.service.now.stage c.in-Given.row c.in-Given.reply c.start.result c.args.service.now.inn c.args.service.now.given.items _ c.in-Given.is c.start.ensures
+    (subst (AreShown _) same c.in_ok-write_data.ensures.shown)
+
+pub returns-in_default-clause-stored : goal.returns-in_default-clause-stored
+returns-in_default-clause-stored g c = λ row reply is. absurd (c.in_default.not-Given row reply is)
+
+pub returns-in_err-write_data-clause-unstored : goal.returns-in_err-write_data-clause-unstored
+returns-in_err-write_data-clause-unstored g c = λ isnt. refl
+
+pub returns-in_ok-write_data-clause-unstored : goal.returns-in_ok-write_data-clause-unstored
+returns-in_ok-write_data-clause-unstored g c = λ isnt. absurd (cc (isnt, ap is_given c.in-Given.is))
+
+pub returns-in_default-clause-unstored : goal.returns-in_default-clause-unstored
+returns-in_default-clause-unstored g c = λ isnt. refl

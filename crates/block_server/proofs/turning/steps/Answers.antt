@@ -30,6 +30,7 @@ use Rattle.block_server.proofs.TurnRanges.{leaves_on, writes_on}
 use Rattle.block_server.specs.Standing.{stood}
 use Rattle.block_server.proofs.FirstTurns.{over_not}
 use Rattle.block_server.proofs.TurnRows.{rows_on}
+use Rattle.tce_window.specs.PortState.{PortPlace}
 use Rattle.block_server.proofs.turning.steps.Goals as goal
 
 pub returns-in_err-open_line-clause-once : goal.returns-in_err-open_line-clause-once
@@ -490,8 +491,10 @@ returns-clause-leaves g c = λ words calm.
     let put = c.in_ok-put_kept.ensures.rests none in
     leaves_on _ c.args.unit.now c.open_line.new.unit c.put_kept.new.unit c.take_in.new.unit
     (reach_of (g.S.Site.state c.args.site.now)) (reach_of (g.S.Site.state c.open_line.new.site)) (reach_of (g.S.Site.state c.put_kept.new.site)) (reach_of (g.S.Site.state c.take_in.new.site))
-    (g.S.Site.state c.serve.new.site).queue (g.S.Site.state c.serve.new.site).client
-    _ _ _ words c.serve.result calm opened.1 first.0 first.1 c.open_line.ensures.advances.shared put.1 (ap reach_of put.2) (c.in_ok-put_kept.ensures.unkept none) c.take_in.ensures.advances.shared
+    (g.S.Site.state c.args.site.now).own.place.unit (g.S.Site.state c.take_in.new.site).own.place.unit (g.S.Site.state c.serve.new.site).queue (g.S.Site.state c.serve.new.site).client
+    _ _ _ _ _ _ _ words c.serve.result calm opened.1 first.0 first.1 c.open_line.ensures.advances.shared put.1 (ap reach_of put.2) (c.in_ok-put_kept.ensures.unkept none) c.take_in.ensures.advances.shared
+    (ap (λ (place : PortPlace). place.unit) (c.take_in.ensures.advances.own_place ∙ ap (λ (s : SiteState). s.own.place) put.2 ∙ c.open_line.ensures.advances.own_place))
+    (c.put_kept.ensures.unkept_rows none) c.take_in.ensures.rows
     (λ now few. (c.in_ok-take_in.ensures.hears words now few).1)
     c.serve.ensures.leaves
 

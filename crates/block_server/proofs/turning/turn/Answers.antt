@@ -41,12 +41,12 @@ returns-else-unit-clause-writes g c = λ told all serving words calm.
 
 pub returns-then-unit-clause-leaves : goal.returns-then-unit-clause-leaves
 returns-then-unit-clause-leaves g c = λ words calm.
-    leaves_from c.args.unit.now (record c.args.unit.now { moved = false }) _ words _ _ refl
+    leaves_from _ c.args.unit.now (record c.args.unit.now { moved = false }) _ words _ _ _ _ _ refl
     (c.in_ok-steps.ensures.leaves words (calm_from c.args.unit.now (record c.args.unit.now { moved = false }) (reach_of (g.S.Site.state c.args.site.now)) _ words refl refl refl refl calm))
 
 pub returns-else-unit-clause-leaves : goal.returns-else-unit-clause-leaves
 returns-else-unit-clause-leaves g c = λ words calm.
-    leaves_from c.args.unit.now (record c.args.unit.now { moved = false }) _ words _ _ refl
+    leaves_from _ c.args.unit.now (record c.args.unit.now { moved = false }) _ words _ _ _ _ _ refl
     (c.in_ok-steps.ensures.leaves words (calm_from c.args.unit.now (record c.args.unit.now { moved = false }) (reach_of (g.S.Site.state c.args.site.now)) _ words refl refl refl refl calm))
 
 pub returns-then-unit-clause-places : goal.returns-then-unit-clause-places

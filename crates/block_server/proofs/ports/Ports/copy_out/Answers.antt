@@ -10,6 +10,8 @@ use Rattle.block_server.proofs.FirstPages.{fetches_same, made_in, none_in, to_cl
 use Rattle.block_server.proofs.Owning.{deliver_denied}
 use Rattle.block_server.proofs.UnitBytes.{lays_none, only_copies}
 use Rattle.block_server.proofs.RangeLaws.{copy_within, lays_none as lays_nothing}
+use Rattle.block_server.proofs.Bearing.{bears_none, copy_bears}
+use Rattle.block_server.proofs.BearingParts.{copy_missed}
 use Rattle.block_server.proofs.ports.Ports.copy_out.Goals as goal
 
 pub returns-clause-advances : goal.returns-clause-advances
@@ -77,3 +79,17 @@ returns-clause-wrote g c =
 
 pub returns-then-is_err-clause-wrote : goal.returns-then-is_err-clause-wrote
 returns-then-is_err-clause-wrote g c = lays_nothing _ _
+
+pub returns-clause-bears : goal.returns-clause-bears
+returns-clause-bears g c =
+    copy_bears g.O.WindowPort.is_shared g.R.WindowPort.is_shared _ _ _ _ _ _ _ _ _ c.copy_rdma-answer.result c.args.self.now.alone c.args.self.now.named
+    c.args.self.now.ready.first c.requires.inside c.copy_rdma-answer.ensures.read c.copy_rdma-answer.ensures.source c.copy_rdma-answer.ensures.copied
+    c.copy_rdma-answer.ensures.refused c.copy_rdma-answer.ensures.target
+
+pub returns-then-is_err-clause-bears : goal.returns-then-is_err-clause-bears
+returns-then-is_err-clause-bears g c = bears_none _ _
+
+pub returns-clause-missed : goal.returns-clause-missed
+returns-clause-missed g c =
+    copy_missed c.note.result c.copy_rdma-answer.result g.R.WindowPort.is_shared _ _ c.copy_rdma-answer.ensures.refused c.note.ensures.none
+    c.copy_rdma-answer.ensures.target

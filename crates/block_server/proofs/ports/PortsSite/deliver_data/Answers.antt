@@ -5,6 +5,7 @@ use Rattle.block_server.proofs.DataPages.{none_data}
 use Rattle.block_server.proofs.FirstPages.{queue_stays}
 use Rattle.std.proofs.Common.{ℕ, subst}
 use Rattle.block_server.specs.Ranges.{IsRange, LaysIn, seen_in}
+use Rattle.block_server.proofs.BearingParts.{data_bears}
 use Rattle.block_server.proofs.ports.PortsSite.deliver_data.Goals as goal
 
 pub returns-clause-passes : goal.returns-clause-passes
@@ -23,3 +24,7 @@ pub returns-clause-wrote : goal.returns-clause-wrote
 returns-clause-wrote g c =
     subst (λ (n : ℕ). LaysIn (IsRange c.args.address n) (seen_in g.R.WindowPort.is_shared (g.R.WindowPort.state c.args.self.now.client.now))
     (seen_in g.R.WindowPort.is_shared (g.R.WindowPort.state c.copy_out.new.self.client.now))) c.from-2.ensures c.copy_out.ensures.wrote
+
+pub returns-clause-bears : goal.returns-clause-bears
+returns-clause-bears g c =
+    data_bears _ c.args.at c.from.result c.args.address c.args.len c.from-2.result c.args.mark _ _ c.from.ensures c.from-2.ensures c.copy_out.ensures.bears

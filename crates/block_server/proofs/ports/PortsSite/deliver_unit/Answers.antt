@@ -11,6 +11,8 @@ use Rattle.tce_window.specs.PortState.{PortState}
 use Rattle.block_server.specs.Ranges.{IsRange, LaysIn, seen_in}
 use Rattle.block_server.proofs.RangeLaws.{lays_same}
 use Rattle.block_server.proofs.Standing.{stands_one}
+use Rattle.block_server.proofs.Bearing.{bears_same}
+use Rattle.block_server.proofs.BearingParts.{unit_bears}
 use Rattle.block_server.proofs.ports.PortsSite.deliver_unit.Goals as goal
 
 pub returns-in-Ok-clause-advances : goal.returns-in-Ok-clause-advances
@@ -58,3 +60,11 @@ returns-in-Ok-clause-laid g c =
     on_ok_map c.copy_out.result _ _
     (λ made. stands_one g.O.WindowPort.is_shared g.R.WindowPort.is_shared _ _ _ _ _ _ _ _ _ _ _ c.args.self.now.alone c.args.self.now.ready.first
     (omega arith) (omega arith) (omega arith) c.in-Ok.ensures.wrote c.write_own.ensures.own c.copy_out.ensures.laid c.copy_out.ensures.rest made) c.copy_out.ensures.made
+
+pub returns-in-Ok-clause-bears : goal.returns-in-Ok-clause-bears
+returns-in-Ok-clause-bears g c =
+    unit_bears g.O.WindowPort.is_shared _ _ c.args.mark c.args.address _ c.args.bytes.now _ _ _ c.args.self.now.alone (omega arith) c.in-Ok.ensures.wrote
+    c.write_own.ensures.own (ap (seen_in g.R.WindowPort.is_shared) c.write_own.ensures.client) c.copy_out.ensures.bears
+
+pub returns-in-Err-clause-bears : goal.returns-in-Err-clause-bears
+returns-in-Err-clause-bears g c = bears_same _ _ _ (ap (seen_in g.R.WindowPort.is_shared) c.write_own.ensures.client)

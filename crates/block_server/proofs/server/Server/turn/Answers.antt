@@ -352,10 +352,12 @@ returns-clause-leaves g c = λ words u at calm.
     let lent = c.turn.ensures.advances.reached in
     let queue = sym (ap g.C.CrqEnd.state (c.crq-1.given.1 (sym (ap (λ (lent : Lenders). lent.queue) lent)))) in
     let client = sym (ap g.R.WindowPort.state (c.client-1.given.1 (sym (ap (λ (lent : Lenders). lent.client) lent)))) in
-    subst (λ (z : EndState × PortState). OnOk c.turn.result (LeavesOn u (g.C.CrqEnd.state c.args.crq.now) words z.0 z.1)) (λ i. (queue i, client i))
-    (unit_leaves _ server.units.items c.args.unit u c.index_mut.result.now
+    subst (λ (z : EndState × PortState). OnOk c.turn.result (LeavesOn (g.O.WindowPort.state c.args.own.now).place.unit u (g.C.CrqEnd.state c.args.crq.now) words z.0
+    (g.R.WindowPort.state c.args.client.now) z.1 server.records.history.items c.turn.new.records.history.items)) (λ i. (queue i, client i))
+    (unit_leaves _ (g.O.WindowPort.state c.args.own.now).place.unit server.units.items c.args.unit u c.index_mut.result.now
     (reach (g.C.CrqEnd.state c.args.crq.now) (g.R.WindowPort.state c.args.client.now) g.R.WindowPort.is_shared) words
-    (g.C.CrqEnd.state c.turn.new.site.queue.now) (g.R.WindowPort.state c.turn.new.site.client.now) c.turn.result there at (c.turn.ensures.leaves words) calm)
+    (g.C.CrqEnd.state c.turn.new.site.queue.now) (g.R.WindowPort.state c.args.client.now) (g.R.WindowPort.state c.turn.new.site.client.now)
+    server.records.history.items c.turn.new.records.history.items c.turn.result there at (c.turn.ensures.leaves words) calm)
 
 pub returns-clause-places : goal.returns-clause-places
 returns-clause-places g c = λ words u at calm.
