@@ -71,7 +71,7 @@ answers_shown trace client own pair driver answers entries is = record {
     tags : answered_tags (answers_to trace client) ≡ answered_tags driver.answers.items
     tags = ap answered_tags answers ∙ tags_named client driver.answers.items
 
-contains_map : {X Y : Type 0} (f : X → Y) (xs : List X) (x : X) → Contains xs x → Contains (map f xs) (f x)
+pub contains_map : {X Y : Type 0} (f : X → Y) (xs : List X) (x : X) → Contains xs x → Contains (map f xs) (f x)
 contains_map {X = X} f xs x (k, less, at) = by xs k less at
   where
     by : (ys : List X) (j : ℕ) → j < length ys → get_or ys j x ≡ x → Contains (map f ys) (f x)

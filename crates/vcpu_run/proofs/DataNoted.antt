@@ -1,5 +1,5 @@
 -- What a client noted stays noted, and what it says of data was answered.
-use Rattle.std.proofs.Common.{◌≡◌, ◌∙◌, ◌⊎◌, inl, inr, ℕ, ◌≤◌, ◌++◌, Bool, true, false, Contains, IfSome, IsSomeAnd, List, [], ◌∷◌, Ok, Option, Some, None, append-nil, length, refl, sym, ap, subst, slice_get, arith}
+use Rattle.std.proofs.Common.{◌≡◌, ◌∙◌, ◌⊎◌, inl, inr, ℕ, ◌≤◌, ◌++◌, Bool, true, false, Contains, IfSome, IsSomeAnd, List, [], ◌∷◌, Ok, Option, Some, None, append-nil, append_assoc, length, refl, sym, ap, subst, slice_get, arith}
 use Rattle.std.proofs.lemmas.List.Elements.{Contains-append_left}
 use Rattle.vio_num.specs.declared.names.UnitId.{UnitId}
 use Rattle.boot_text.specs.declared.plan.Line.{Line}
@@ -23,6 +23,7 @@ use Rattle.vcpu_run.specs.Agreed.{OnDrivers, SameDrivers, driver_in}
 use Rattle.vcpu_run.specs.AnswersSeen.{AreResponsesRead, IsResponseRead, fronts_of}
 use Rattle.vcpu_run.specs.DataKept.{IsInwardAt, IsKeptAt, range_in}
 use Rattle.vcpu_run.specs.DataNoted.{HasNoted, PairNoted}
+use Rattle.vcpu_run.specs.Pairs.{AreDriven, Drives}
 use Rattle.vcpu_run.specs.NotedOn.{AllKeepNoted, KeepsNoted}
 use Rattle.vcpu_run.specs.LinesRead.{AreKept, IsAnsweredIn, IsAskedBefore}
 use Rattle.vcpu_run.specs.Machines.{AllStay, Stays}
@@ -37,9 +38,10 @@ use Rattle.vcpu_run.proofs.DataRanges.{range_noted, range_of}
 use Rattle.vcpu_run.specs.AnswersTaken.{has_tag}
 use Rattle.vcpu_run.proofs.Announcing.{both_bools}
 use Rattle.vcpu_run.proofs.DataOf.{kept_as}
-use Rattle.vcpu_run.proofs.DataStays.{data_same, no_login}
+use Rattle.vcpu_run.proofs.DataStays.{data_on, data_same, no_login}
 use Rattle.vcpu_run.proofs.Driving.{some_is}
 use Rattle.vcpu_run.proofs.TakenOn.{empty_row}
+use Rattle.vcpu_run.proofs.Listed.{held}
 use Rattle.vcpu_run.proofs.LinesShown.{all_has, no_row, row_at as found_at}
 
 -- ---- a step
@@ -89,19 +91,41 @@ keep_gives old new gives k before after was is =
     by (Some a) None gives = absurd gives
     by (Some a) (Some b) gives = record { keeps = gives.keeps; server = gives.server; more = gives.more }
 
+-- one step behind another, where no pair is gone
+keeps_then : (o p q : Option Driver) → OnDrivers o p KeepsNoted → OnDrivers p q KeepsNoted → OnDrivers o q KeepsNoted
+keeps_then None None None first next = tt
+keeps_then None None (Some c) first next = absurd next
+keeps_then None (Some b) q first next = absurd first
+keeps_then (Some a) None q first next = absurd first
+keeps_then (Some a) (Some b) None first next = absurd next
+keeps_then (Some a) (Some b) (Some c) first next = record {
+  keeps = data_on a.client b.client c.client a.answers.items b.answers.items c.answers.items first.keeps next.keeps;
+  server = next.server ∙ first.server;
+  more = (first.more.0 ++ next.more.0, next.more.1 ∙ (ap (λ (list : List AnswerRow). list ++ next.more.0) first.more.1 ∙ append_assoc a.answers.items first.more.0 next.more.0));
+}
+
+pub keep_on : (old mid new : List Pair) → AreDriven old mid → AllKeepNoted old mid → AllKeepNoted mid new → AllKeepNoted old new
+keep_on old mid new driven first next k before after was is =
+    let between = held (Drives before) (slice_get mid k) (driven.each k before was) in
+    keeps_then before.driver between.0.driver after.driver (first k before between.0 was between.1) (next k between.0 after between.1 is)
+
+pub keep_told : (seats : List Seat) (line : Line) (p p' : Progress) (old new : List Pair) (step : Step) → IsSomeAnd (slice_get seats line.unit) (suits line.verb)
+    → LineTold seats line p p' old new (Ok step) → AllKeepNoted old new
+keep_told seats line p p' old new step suited told = at (slice_get seats line.unit) refl suited
+  where
+    at : (o : Option Seat) → slice_get seats line.unit ≡ o → IsSomeAnd o (suits line.verb) → AllKeepNoted old new
+    at None e h = absurd h
+    at (Some places.Server) e h = absurd h
+    at (Some (places.Client k)) e h = keep_gives old new (told.client k e).gives
+    at (Some places.Port) e h = subst (AllKeepNoted old) (sym (told.port e)) (keep_same old old (λ k. refl))
+
 pub keep_line : (seats : List Seat) (line : Line) (p p' : Progress) (old new : List Pair) (step : Step) → IsSomeAnd (slice_get seats line.unit) (suits line.verb)
     → (is_call line.verb ≡ true → SameDrivers old new) → (is_call line.verb ≡ false → LineTold seats line p p' old new (Ok step)) → AllKeepNoted old new
 keep_line seats line p p' old new step suited calls told = by (is_call line.verb) refl
   where
-    at : LineTold seats line p p' old new (Ok step) → (o : Option Seat) → slice_get seats line.unit ≡ o → IsSomeAnd o (suits line.verb) → is_call line.verb ≡ false → AllKeepNoted old new
-    at is None e h plain = absurd h
-    at is (Some places.Server) e h plain = absurd h
-    at is (Some (places.Client k)) e h plain = keep_gives old new (is.client k e).gives
-    at is (Some places.Port) e h plain = subst (AllKeepNoted old) (sym (is.port e)) (keep_same old old (λ k. refl))
-
     by : (b : Bool) → is_call line.verb ≡ b → AllKeepNoted old new
     by true e = keep_same old new (calls e)
-    by false e = at (told e) (slice_get seats line.unit) refl suited e
+    by false e = keep_told seats line p p' old new step suited (told e)
 
 pub server_of : (old new : List Pair) → AllStay old new → (k : ℕ) (before after : Pair) → slice_get old k ≡ Some before → slice_get new k ≡ Some after → after.server ≡ before.server
 server_of old new stay k before after was is = (subst (λ (o : Option Pair). IsSomeAnd o (Stays before)) is (stay.each k before was)).server

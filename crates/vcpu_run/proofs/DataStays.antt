@@ -15,7 +15,7 @@ use Rattle.vscsi_client.specs.declared.row.Row.{Row}
 use Rattle.vscsi_client.specs.declared.row.Row.TheVariants as rows
 use Rattle.vcpu_run.specs.AnswersTaken.{has_tag}
 use Rattle.vcpu_run.specs.DataKept.{AreAsked, AreNoted, IsInwardAt, IsNoted, KeepsData, said_by}
-use Rattle.vcpu_run.specs.TagRows.{is_given, row_at}
+use Rattle.vcpu_run.specs.TagRows.{is_given, is_inward, row_at}
 use Rattle.vcpu_run.specs.Takings.{Notes}
 use Rattle.vcpu_run.proofs.Announcing.{both_bools}
 use Rattle.vcpu_run.proofs.Crediting.{here_or}
@@ -29,6 +29,8 @@ AreFewer old new = (t : ℕ) → has_tag t (tags_of new) ≡ true → has_tag t 
 -- rows and answers are those of before
 pub data_fewer : (s s' : ClientState) (answers answers' : List AnswerRow) → s'.rows ≡ s.rows → AreFewer s.outgoing s'.outgoing → answers' ≡ answers → KeepsData s s' answers answers'
 data_fewer s s' answers answers' rows_are fewer same = record {
+  more = let long : length s'.rows ≡ length s.rows = ap length rows_are in omega (arith, long);
+  kinds = λ asked tag within is. subst (λ (rs : List Row). is_inward (row_at rs tag) ≡ true) rows_are is;
   asked = λ asked t has. asked t (fewer t has);
   rows_stay = λ asked tag at len is. subst (λ (rs : List Row). IsInwardAt rs tag at len) (sym rows_are) is;
   noted = λ asked noted. subst (λ (rs : List Row). AreNoted rs answers') (sym rows_are) (subst (AreNoted s.rows) (sym same) noted);
@@ -69,6 +71,9 @@ noted_more rs row answers none noted tag at len said is = by (stands (length rs)
 pub data_more : (s s' : ClientState) (row : Row) (answers answers' : List AnswerRow) → is_given row ≡ false → s'.rows ≡ s.rows ++ row ∷ [] → (AreAsked s.outgoing → AreAsked s'.outgoing)
     → answers' ≡ answers → KeepsData s s' answers answers'
 data_more s s' row answers answers' none rows_are asked same = record {
+  more = let long : length s'.rows ≡ length (s.rows ++ row ∷ []) = ap length rows_are in let pushed = length-append s.rows (row ∷ []) in omega (arith, long, pushed);
+  kinds = λ asked tag within is.
+      subst (λ (r : Row). is_inward r ≡ true) (row_before s.rows row tag within) (subst (λ (rs : List Row). is_inward (row_at rs tag) ≡ true) rows_are is);
   asked = asked;
   rows_stay = λ asked tag at len is. subst (λ (rs : List Row). IsInwardAt rs tag at len) (sym rows_are) (inward_more s.rows row tag at len is);
   noted = λ asked noted. subst (λ (rs : List Row). AreNoted rs answers') (sym rows_are) (subst (AreNoted (s.rows ++ row ∷ [])) (sym same) (noted_more s.rows row answers none noted));
@@ -77,6 +82,9 @@ data_more s s' row answers answers' none rows_are asked same = record {
 -- one step behind another
 pub data_on : (r s t : ClientState) (a b c : List AnswerRow) → KeepsData r s a b → KeepsData s t b c → KeepsData r t a c
 data_on r s t a b c first next = record {
+  more = omega (arith, first.more, next.more);
+  kinds = λ asked tag within is.
+      first.kinds asked tag within (next.kinds (first.asked asked) tag (omega (arith, within, first.more)) is);
   asked = λ asked. next.asked (first.asked asked);
   rows_stay = λ asked tag at len is. next.rows_stay (first.asked asked) tag at len (first.rows_stay asked tag at len is);
   noted = λ asked noted. next.noted (first.asked asked) (first.noted asked noted);
@@ -143,9 +151,34 @@ answered_noted rs tag response answers answers' begun notes noted t at len said 
         let still : row_at rs t ≡ rows.Command dirs.In at len (Some said) = sym (row_unset rs tag t response begun (λ same. both_bools (tag == t) (eq-eqb tag t (sym same)) e)) ∙ is in
         subst (λ (list : List AnswerRow). IsNoted list t said) (sym notes.rows) (noted_behind answers notes.row t said (noted t at len said still))
 
+-- and each row is of a command with data-in if it was
+kind_answered : (response : Response) (row : Row) → is_inward (row_answered response row) ≡ is_inward row
+kind_answered response (rows.Command dirs.In at len said) = refl
+kind_answered response (rows.Command dirs.Out at len said) = refl
+kind_answered response (rows.Command dirs.Neither at len said) = refl
+kind_answered response rows.Login = refl
+kind_answered response rows.Logout = refl
+kind_answered response rows.Task = refl
+
+kinds_answered : (rs : List Row) (tag : ℕ) (response : Response) (t : ℕ) → 1 ≤ tag → t ≤ length rs → is_inward (row_at (answered tag response rs) t) ≡ is_inward (row_at rs t)
+kinds_answered rs tag response t begun within = by (here_or tag t)
+  where
+    by : ((tag == t) ≡ true) ⊎ ((tag == t) ≡ false) → is_inward (row_at (answered tag response rs) t) ≡ is_inward (row_at rs t)
+    by (inl e) =
+        let same : tag ≡ t = eqb-true tag t e in
+        ap is_inward (subst (λ n. row_at (answered tag response rs) n ≡ row_answered response (row_at rs n)) same (row_set rs tag response begun (omega (arith, same, within))))
+        ∙ kind_answered response (row_at rs t)
+    by (inr e) = ap is_inward (row_unset rs tag t response begun (λ same. both_bools (tag == t) (eq-eqb tag t (sym same)) e))
+
 pub data_answered : (s s' : ClientState) (tag : ℕ) (response : Response) (answers answers' : List AnswerRow) → s'.rows ≡ answered tag response s.rows → s'.outgoing ≡ without_tag tag s.outgoing
     → has_tag tag (tags_of s.outgoing) ≡ true → Notes tag response answers answers' → KeepsData s s' answers answers'
 data_answered s s' tag response answers answers' rows_are outgoing there notes = record {
+  more =
+      let set : length (answered tag response s.rows) ≡ length s.rows = length-set s.rows (tag - 1) (row_answered response (slice_index_or s.rows (tag - 1) rows.Login)) in
+      let long : length s'.rows ≡ length (answered tag response s.rows) = ap length rows_are in
+      omega (arith, set, long);
+  kinds = λ asked t within is.
+      sym (kinds_answered s.rows tag response t (asked tag there) within) ∙ subst (λ (rs : List Row). is_inward (row_at rs t) ≡ true) rows_are is;
   asked = λ asked t has. asked t (tags_fewer tag s.outgoing t (subst (λ (os : List Outgoing). has_tag t (tags_of os) ≡ true) outgoing has));
   rows_stay = λ asked t at len is. subst (λ (rs : List Row). IsInwardAt rs t at len) (sym rows_are) (answered_stays s.rows tag response t at len (asked tag there) is);
   noted = λ asked noted. subst (λ (rs : List Row). AreNoted rs answers') (sym rows_are) (answered_noted s.rows tag response answers answers' (asked tag there) notes noted);

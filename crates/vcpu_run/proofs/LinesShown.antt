@@ -239,7 +239,7 @@ op_unit (verbs.Hcall number arguments) op tag iu is unit = absurd is
 op_unit verbs.Fail op tag iu is unit = absurd is
 
 -- a line that fails its partition
-fail_is : (verb : Verb) → fails verb ≡ true → verb ≡ verbs.Fail
+pub fail_is : (verb : Verb) → fails verb ≡ true → verb ≡ verbs.Fail
 fail_is verbs.Login is = absurd (cc)
 fail_is verbs.Reset is = absurd (cc)
 fail_is verbs.Logout is = absurd (cc)
@@ -550,10 +550,10 @@ lines_next seen who unit lines rows line row found show last i l r there at is =
         (subst (λ (x : Line). IsShown seen who x.number x.verb row.outcome) (sym same) (last (sym (ap (λ (x : Line). x.unit) same) ∙ is)))
 
 -- an entry that was put in a session is one of those that the trace shows
-no_element : {X : Type 0} (x : X) → Contains [] x → ⊥
+pub no_element : {X : Type 0} (x : X) → Contains [] x → ⊥
 no_element x h = omega (arith, h.1)
 
-first_or : {X : Type 0} (first x : X) (xs : List X) → Contains (first ∷ xs) x → (first ≡ x) ⊎ Contains xs x
+pub first_or : {X : Type 0} (first x : X) (xs : List X) → Contains (first ∷ xs) x → (first ≡ x) ⊎ Contains xs x
 first_or {X} first x xs h = at h.0 h.1 h.2
   where
     at : (k : ℕ) → k < length (first ∷ xs) → get_or (first ∷ xs) k x ≡ x → (first ≡ x) ⊎ Contains xs x
@@ -563,10 +563,10 @@ first_or {X} first x xs h = at h.0 h.1 h.2
 pub all_has : {X : Type 0} (P : X → Type 0) (xs : List X) (x : X) → All P xs → Contains xs x → P x
 all_has P xs x all has = subst P has.2 (all has.0 x has.1)
 
-behind_first : {X : Type 0} (first x : X) (xs : List X) → Contains xs x → Contains (first ∷ xs) x
+pub behind_first : {X : Type 0} (first x : X) (xs : List X) → Contains xs x → Contains (first ∷ xs) x
 behind_first first x xs h = Contains-append_right (first ∷ []) xs x h
 
-in_session : (q : ℕ) (rows : List PipeRow) (row : PipeRow) → row.session ≡ q → Contains rows row → Contains (entries_of q rows) row.entry
+pub in_session : (q : ℕ) (rows : List PipeRow) (row : PipeRow) → row.session ≡ q → Contains rows row → Contains (entries_of q rows) row.entry
 in_session q [] row same has = absurd (no_element row has)
 in_session q (first ∷ rows) row same has = by (in_session q rows row same) (first_or first row rows has)
   where

@@ -4,6 +4,8 @@ use Rattle.std.specs.Prelude.{⊤}
 use Rattle.std.proofs.lemmas.List.{take-take}
 use Rattle.vio_num.specs.Entry.{srp_entry}
 use Rattle.vio_num.specs.declared.history.Grant.{Grant}
+use Rattle.vio_num.specs.declared.history.Served.{Served}
+use Rattle.vio_num.specs.declared.names.UnitId.{UnitId}
 use Rattle.crq_ring.specs.declared.rows.PipeRow.{PipeRow}
 use Rattle.crq_session.specs.EndState.{EndPlace, EndState}
 use Rattle.page_slots.specs.Page.{left_by}
@@ -197,12 +199,12 @@ not_out current order outcome suits is = none outcome (subst (λ (o : Order). Su
     none outcomes.Rejected suits = suits
     none (outcomes.Served row) suits = suits
 
-pub leaves_slots : (at at' : Between) (lines lines' : List Grant) (words : List Word) (turn : Turns at at' lines lines' words) → IsOwnWindow at.window → IsOwnWindow at'.window
+pub leaves_slots : (at at' : Between) (lines lines' : List Grant) (rows rows' : List Served) (name : UnitId) (words : List Word) (turn : Turns at at' lines lines' words) → IsOwnWindow at.window → IsOwnWindow at'.window
     → at'.window.place ≡ at.window.place → at.server.place.partner_registered ≡ true
     → WritesOn (stood at.window) at.unit at.server words (seen_in false at.window) (seen_in false at'.window)
-    → LeavesOn at.unit at.server words at'.server at'.window
+    → LeavesOn name at.unit at.server words at'.server at.window at'.window rows rows'
     → LeavesSlots at.window at'.window turn.middle at'.unit turn.between.queue at'.server turn.added lines' turn.serves
-leaves_slots at at' lines lines' words turn own own' place on wrote left = by turn.serves
+leaves_slots at at' lines lines' rows rows' name words turn own own' place on wrote left = by turn.serves
   where
     keeps : (request : Request) (rest : List Request) → turn.middle.pending.items ≡ request ∷ rest → (ask : Ask) → IsPendingAs request ask → IsAsk ask → DataLies at.window ask
         → LeavesElse ask at.window at'.window
@@ -220,19 +222,19 @@ leaves_slots at at' lines lines' words turn own own' place on wrote left = by tu
     stands request rest items one ask pending is_ask =
         let leaves = left.leaves (talk_of turn.middle) request rest turn.hears.heard items (not_out turn.middle.logins.current request.order one.outcome one.suits) in
         let says = says_of turn.middle.logins.current turn.middle.logins.granted request.tag ask request.order leaves.outcome leaves.bytes is_ask pending.order pending.tag
-        leaves.stands.0 leaves.suits leaves.answer in
+        leaves.stands.some leaves.suits leaves.answer in
         let long : one.long ≡ length leaves.bytes =
         same_long turn.between.queue at'.server one.long (length leaves.bytes) request.tag one.put.put.put
         (ap (λ (place : EndPlace). place.partner_registered) turn.hears.place ∙ on) one.put.put.place leaves.put in
         let few : length leaves.bytes ≤ 256 = says.few in
         let at_slot : IsOnPage at'.window (slot_address ask.slot) (length leaves.bytes) =
-        slot_on at'.window own' ask.slot (length leaves.bytes) is_ask.slot_is leaves.stands.0 few in
+        slot_on at'.window own' ask.slot (length leaves.bytes) is_ask.slot_is leaves.stands.some few in
         let show : shown at'.window (slot_address ask.slot) (length leaves.bytes) ≡ leaves.bytes =
         stand_shown at'.window own' (slot_address ask.slot) leaves.bytes at_slot
         (subst (λ address. StandAt at'.window address leaves.bytes) pending.address
-        (leaves.stands.1 (subst (λ address. address % 4096 + length leaves.bytes ≤ 4096) (sym pending.address) at_slot.fits))) in
+        (leaves.stands.stand (subst (λ address. address % 4096 + length leaves.bytes ≤ 4096) (sym pending.address) at_slot.fits))) in
         let known : AnswerStands turn.middle.logins.granted at'.window ask one.long leaves.outcome says.answer =
-        says_stands at'.window own' ask leaves.outcome leaves.bytes one.long is_ask turn.middle.logins.granted says leaves.stands.0 (omega (arith, long, few)) show in (
+        says_stands at'.window own' ask leaves.outcome leaves.bytes one.long is_ask turn.middle.logins.granted says leaves.stands.some (omega (arith, long, few)) show in (
           says.answer,
           record {
             few = known.few;
@@ -258,11 +260,11 @@ leaves_slots at at' lines lines' words turn own own' place on wrote left = by tu
         λ ask pending is_ask its. (keeps request rest items ask pending is_ask its, stands request rest items one ask pending is_ask)
 
 -- Behind a turn of the server unit what is so between them is so, and nothing is to come.
-pub plainly_served : (granted : ℕ) (at at' : Between) (lines lines' : List Grant) (words : List Word) → TalksPlainly granted at words → (turn : Turns at at' lines lines' words)
+pub plainly_served : (granted : ℕ) (at at' : Between) (lines lines' : List Grant) (rows rows' : List Served) (name : UnitId) (words : List Word) → TalksPlainly granted at words → (turn : Turns at at' lines lines' words)
     → ClientStays at at' → at'.window.place ≡ at.window.place
     → WritesOn (stood at.window) at.unit at.server words (seen_in false at.window) (seen_in false at'.window)
-    → LeavesOn at.unit at.server words at'.server at'.window → TalksPlainly granted at' []
-plainly_served granted at at' lines lines' words talks turn stays place wrote left = record {
+    → LeavesOn name at.unit at.server words at'.server at.window at'.window rows rows' → TalksPlainly granted at' []
+plainly_served granted at at' lines lines' rows rows' name words talks turn stays place wrote left = record {
   calm = calm_behind granted at at' lines lines' words talks.calm turn stays;
   phase = by talks.phase;
   tabled = ap (λ (s : ClientState). s.tabled) stays.client ∙ talks.tabled;
@@ -273,4 +275,4 @@ plainly_served granted at at' lines lines' words talks turn stays place wrote le
     by (inr (inl begun)) = inr (inl (begun_behind granted at at' lines lines' words talks.calm begun turn stays))
     by (inr (inr (asked, answers, talk))) =
         inr (inr (talk_behind granted at at' lines lines' words asked answers talks.calm talk turn stays
-        (leaves_slots at at' lines lines' words turn talks.calm.usable stays.usable place (talks.calm.ends.server_sees.partner ∙ talk.registered) wrote left)))
+        (leaves_slots at at' lines lines' rows rows' name words turn talks.calm.usable stays.usable place (talks.calm.ends.server_sees.partner ∙ talk.registered) wrote left)))

@@ -13,11 +13,13 @@ use Rattle.vio_trace.specs.declared.outcome.Outcome.TheVariants as outcomes
 use Rattle.vscsi_client.specs.State.{ClientState, next_tag}
 use Rattle.vscsi_client.specs.declared.answers.Refused.{Refused}
 use Rattle.vscsi_client.specs.declared.answers.Refused.TheVariants as whys
-use Rattle.vcpu_run.specs.PlainSteps.{AreReplayedAs, HasCome, FollowsReplay, IsAsReplayed, AsksAnew, IsNewWord, StepsOn}
-use Rattle.vcpu_run.specs.PlainTalk.{Between, InPhase, IsOwnWindow, ServerStays, TalksPlainly, awaited}
+use Rattle.vcpu_run.specs.PlainSteps.{AreReplayedAs, HasCome, FollowsReplay, IsAsReplayed, AsksAnew, IsNewWord, StepsOn, KeepsLogin}
+use Rattle.vcpu_run.specs.Credited.{grants}
+use Rattle.vcpu_run.specs.PlainTalk.{Between, InPhase, IsOwnWindow, ServerStays, TalksPlainly, awaited, owes}
 use Rattle.vcpu_run.specs.Replay.{Replay, after_line, ends_as, left_unless, sent_unless}
 use Rattle.vcpu_run.specs.Sendings.{SaysSent, SaysWhy, says_as}
 use Rattle.vcpu_run.specs.declared.script.Progress.{Progress}
+use Rattle.vcpu_run.proofs.PlainOwed.{one_if, told_idle}
 use Rattle.vcpu_run.proofs.PlainRefused.{KnowsCredits, says_of}
 use Rattle.vcpu_run.proofs.PlainSlots.{keeps_same}
 use Rattle.vcpu_run.proofs.PlainStill.{plainly_still, all_true}
@@ -108,17 +110,29 @@ stood_still at at' granted talks stays client own window =
 
 -- nothing was asked, and no row came
 pub none_anew : (s s' : ClientState) → length s'.rows ≡ length s.rows → AsksAnew (length s.rows) s' []
-none_anew s s' same = record { more = omega (arith, same); asked = All-nil (IsNewWord (length s.rows) (length s'.rows)) }
+none_anew s s' same = record { more = omega (arith, same); asked = All-nil (IsNewWord (length s.rows) (length s'.rows)); logins = All-nil (KeepsLogin s'.rows) }
+
+-- a refusal grants no login
+refused_none : (why : Refused) → IfSome (says_as why) (λ said. grants said ≡ false)
+refused_none whys.Range = refl
+refused_none whys.NotLoggedIn = refl
+refused_none (whys.NoCredit limit) = refl
+refused_none (whys.Overlap tag) = refl
+refused_none (whys.InUse page word) = tt
+refused_none (whys.Closed control) = refl
+refused_none (whys.Dropped number held) = refl
+refused_none whys.NoMemory = tt
 
 pub asks_on : (granted : ℕ) (verb : Verb) (p : Progress) (now sent : Replay) (at at' : Between) (why : Option Refused) (answer : Result ℕ Refused) (result : Result Step NoMemory)
     → SendsUnless granted at.window.place.size verb now (says_of why) sent → TalksPlainly granted at [] → FollowsReplay granted now at → ServerStays at at'
     → at'.window.place ≡ at.window.place → AsksSo granted now sent at at' why answer → SaysSent answer result → IfErr answer (λ x. SaysWhy x result)
-    → IfErr answer (λ x. x ≡ whys.NoMemory → IsErr result) → IfOk result (StepsOn granted verb p now (length at.client.rows) at')
+    → IfErr answer (λ x. x ≡ whys.NoMemory → IsErr result) → IfOk result (StepsOn granted verb p now (length at.client.rows) (owes at []) at')
 asks_on granted verb p now sent at at' why (Ok tag) result ends talks holds stays place asks says reason memory =
-    subst (λ (r : Result Step NoMemory). IfOk r (StepsOn granted verb p now (length at.client.rows) at')) (sym says) (record {
+    subst (λ (r : Result Step NoMemory). IfOk r (StepsOn granted verb p now (length at.client.rows) (owes at []) at')) (sym says) (record {
       words = went.3;
       talks = went.4;
       anew = went.5;
+      told = told_idle granted (owes at []) at' went.3 (steps.Ends (outcomes.Sent tag)) went.4 went.2.login refl;
       replayed = ends_so granted at.window.place.size verb p now None sent at' went.3 (outcomes.Sent tag) (ap (λ place. place.size) place)
           (subst (λ (w : Option Refused). SendsUnless granted at.window.place.size verb now (says_of w) sent) went.0 ends) (ap (λ (n : ℕ). outcomes.Sent n) went.1) went.2;
     })
@@ -128,17 +142,22 @@ asks_on granted verb p now sent at at' why (Ok tag) result ends talks holds stay
 asks_on granted verb p now sent at at' why (Err x) result ends talks holds stays place asks says reason memory = by why refl asks.refused
   where
     by : (w : Option Refused) → why ≡ w → IfSome w (λ y. (◌≡◌ {A = Result ℕ Refused} (Err x) (Err y)) × (at'.client ≡ at.client) × (at'.own ≡ at.own) × (at'.window ≡ at.window))
-        → IfOk result (StepsOn granted verb p now (length at.client.rows) at')
-    by None none still = no_ok result (StepsOn granted verb p now (length at.client.rows) at') (memory (asks.unsent x refl none))
+        → IfOk result (StepsOn granted verb p now (length at.client.rows) (owes at []) at')
+    by None none still = no_ok result (StepsOn granted verb p now (length at.client.rows) (owes at []) at') (memory (asks.unsent x refl none))
     by (Some y) some still = at_result result reason
       where
         same : x ≡ y
         same = err_same x y still.0
 
-        at_result : (r : Result Step NoMemory) → SaysWhy x r → IfOk r (StepsOn granted verb p now (length at.client.rows) at')
+        still' : TalksPlainly granted at' []
+        still' = stood_still at at' granted talks stays still.1 still.2 still.3
+
+        at_result : (r : Result Step NoMemory) → SaysWhy x r → IfOk r (StepsOn granted verb p now (length at.client.rows) (owes at []) at')
         at_result (Ok (steps.Ends outcome)) is = record {
           words = [];
-          talks = stood_still at at' granted talks stays still.1 still.2 still.3;
+          talks = still';
+          told = told_idle granted (owes at []) at' [] (steps.Ends outcome) still' (ap (λ (s : ClientState). s.login) still.1 ∙ holds.login)
+              (ap one_if (subst (λ (o : Option Outcome). IfSome o (λ said. grants said ≡ false)) is (refused_none x)));
           anew = none_anew at.client at'.client (ap (λ (s : ClientState). length s.rows) still.1);
           replayed = ends_so granted at.window.place.size verb p now (Some outcome) sent at' [] outcome (ap (λ place. place.size) place)
               (subst (λ (o : Option Outcome). SendsUnless granted at.window.place.size verb now o sent) (ap says_of some ∙ ap says_as (sym same) ∙ is) ends) refl

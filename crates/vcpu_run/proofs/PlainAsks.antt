@@ -16,9 +16,10 @@ use Rattle.vscsi_client.specs.declared.outgoing.Outgoing.{Outgoing}
 use Rattle.vscsi_client.specs.declared.stage.Stage.{Stage}
 use Rattle.vscsi_client.specs.declared.stage.Stage.TheVariants.{Idle}
 use Rattle.vcpu_run.proofs.PlainData.{logout_none, named_all, no_data, spared_push}
-use Rattle.vcpu_run.specs.PlainTalk.{AreApart, CountsAsked, AreInOrder, ArePending, AreSpared, Ask, AskedParts, Between, DataLies, HaveAnswers, IsAnswerTo, IsAsk, IsCalm, IsTalking, KeepsTables, KeepsSlots, TagsRise, all_asked, counted, has_login, has_logout, is_counted, is_login, is_logout, is_sent, login_name, name_of, names_of, on_behind, word_of}
+use Rattle.vcpu_run.specs.PlainTalk.{AreApart, CountsAsked, AreInOrder, ArePending, AreSpared, Ask, AskedParts, Between, DataLies, HaveAnswers, IsAnswerTo, IsAsk, IsCalm, IsTalking, KeepsTables, KeepsSlots, TagsRise, all_asked, counted, has_login, has_logout, is_counted, is_login, is_logout, is_sent, login_name, name_of, names_of, on_behind, word_of, StartsAt}
 use Rattle.vcpu_run.proofs.PlainLists.{counted_no_login, login_push, logout_no_login, logout_not_counted, on_out, rise_push}
 use Rattle.vcpu_run.proofs.PlainServed.{all_kept, answers_move}
+use Rattle.vcpu_run.proofs.PlainStarts.{KeepPlaces, starts_behind}
 
 -- ---- lists
 
@@ -226,6 +227,8 @@ pub record Sends (at at' : Between) (ask : Ask) : Type 0 where
   pub is_counted : is_counted ask.iu ≡ true
   pub next : ask.tag ≡ length at.client.rows + 1
   pub rows : length at'.client.rows ≡ length at.client.rows + 1
+  pub places : KeepPlaces at.client.rows at'.client.rows
+  pub starts : StartsAt at'.client.rows ask
   pub outgoing : at'.client.outgoing ≡ at.client.outgoing ++ name_of ask ∷ []
   pub handshake : at'.client.handshake ≡ at.client.handshake
   pub due : at'.client.due ≡ at.client.due
@@ -276,6 +279,9 @@ sends_talk granted at at' asked answers ask calm talk sends = record {
   tables = All-push (DataLies at'.window) asked.pending ask
       (all_kept at.window at'.window (λ other. meets other.table ask.table ≡ false) sends.tables asked.pending
       (All-weaker Spares (λ other. meets other.table ask.table ≡ false) (λ other both. both.1) asked.pending spares) (subst (All (DataLies at.window)) pending talk.tables)) sends.has;
+  starts = All-push (StartsAt at'.client.rows) asked.pending ask
+      (starts_behind at.client.rows at'.client.rows sends.places asked.answered asked.pending (subst (TagsRise (length at.client.rows)) before talk.tags)
+      (subst (All (StartsAt at.client.rows)) pending talk.starts)) sends.starts;
   spared = spared_push asked.pending ask (subst AreSpared pending talk.spared)
       (All-weaker Spares (λ other. meets other.pages ask.table ≡ false) (λ other both. both.0) asked.pending spares);
   login = record {
@@ -393,6 +399,7 @@ pub record SendsOut (at at' : Between) (ask : Ask) : Type 0 where
   pub is_out : is_logout ask.iu ≡ true
   pub next : ask.tag ≡ length at.client.rows + 1
   pub rows : length at'.client.rows ≡ length at.client.rows + 1
+  pub starts : StartsAt at'.client.rows ask
   pub handshake : at'.client.handshake ≡ at.client.handshake
   pub due : at'.client.due ≡ at.client.due
   pub held : at'.client.held ≡ at.client.held
@@ -444,6 +451,7 @@ logs_out granted at at' asked answers ask talk sends = record {
   within = subst (λ (list : List Outgoing). length list ≤ 200) (sym (sends.outgoing ∙ sends.none)) (omega arith);
   counts = subst (λ (u : Unit). CountsAsked u []) (sym sends.unit) (subst (CountsAsked at.unit) empty.1 talk.counts);
   tables = All-cons (DataLies at'.window) ask [] (no_data at'.window ask (logout_none ask.iu sends.is_out)) (All-nil (DataLies at'.window));
+  starts = All-cons (StartsAt at'.client.rows) ask [] sends.starts (All-nil (StartsAt at'.client.rows));
   spared = (All-nil (λ (other : Ask). meets ask.pages other.table ≡ false), tt);
   login = record {
     credits = inl sends.granted;

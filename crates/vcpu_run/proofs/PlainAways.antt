@@ -18,7 +18,7 @@ use Rattle.vscsi_client.specs.declared.found.Found.{Found}
 use Rattle.vscsi_client.specs.declared.row.Row.{Row}
 use Rattle.vscsi_client.specs.declared.stage.Due.{Due}
 use Rattle.vscsi_client.specs.declared.stage.Due.TheVariants as dues
-use Rattle.vcpu_run.specs.PlainSteps.{HasFreed, IsNewWord}
+use Rattle.vcpu_run.specs.PlainSteps.{HasFreed, IsNewWord, KeepsLogin}
 use Rattle.vcpu_run.specs.PlainTalk.{Between, IsAway, IsCalm, ServerStays}
 use Rattle.vcpu_run.specs.Replay.{Replay}
 use Rattle.vcpu_run.proofs.PlainBegins.{OpensAnew, begins_plainly}
@@ -211,6 +211,7 @@ anew_pauses granted now at steps b server calm away tabled freed off none stays 
   record {
     more = omega (arith, ap (λ (list : List Row). length list) over.rows);
     asked = All-cons (IsNewWord (length at.client.rows) (length b.client.rows)) tells [] tt (All-nil (IsNewWord (length at.client.rows) (length b.client.rows)));
+    logins = All-cons (KeepsLogin b.client.rows) tells [] tt (All-nil (KeepsLogin b.client.rows));
   },
   inr (inl (awaits_on now at (end_at at b server) freed off none (ap (λ (list : List Row). length list) over.rows) over.handshake)),
   inl (λ nothing. cc (nothing)),

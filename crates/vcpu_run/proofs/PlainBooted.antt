@@ -1,5 +1,5 @@
 -- Plain clients of a machine before its first round: each sits at the pair of its server unit, behind that unit's script, and both are as they were made.
-use Rattle.std.proofs.Common.{◌≡◌, ◌∙◌, inr, ℕ, ◌<◌, ◌≤◌, true, List, [], IfSome, IsSomeAnd, Option, Some, None, length, slice_get, refl, sym, ap, subst, arith}
+use Rattle.std.proofs.Common.{◌≡◌, ◌≢◌, ◌∙◌, inr, ℕ, ◌<◌, ◌≤◌, true, List, [], IfSome, IsSomeAnd, Option, Some, None, length, slice_get, refl, sym, ap, subst, arith}
 use Rattle.std.proofs.lemmas.List.Elements.{All-nil}
 use Rattle.std.proofs.lemmas.Option.{slice_get_within}
 use Rattle.vio_num.specs.declared.history.Grant.{Grant}
@@ -13,12 +13,15 @@ use Rattle.boot_text.specs.Sound.{IsClientOf, IsServer, unit_in}
 use Rattle.boot_text.specs.declared.plan.Partition.{Partition}
 use Rattle.boot_text.specs.declared.plan.UnitPlan.TheVariants as units
 use Rattle.lan_script.specs.declared.seat.PortSeat.{PortSeat}
+use Rattle.vio_trace.specs.declared.rows.LogRow.{LogRow}
+use Rattle.tce_window.specs.PlainPort.{known_of}
 use Rattle.vcpu_run.specs.Machines.{IsOfPlan, IsScriptFor, home_of, seat_of, server_id}
 use Rattle.vcpu_run.specs.Making.{AreMade, IsMade}
-use Rattle.vcpu_run.specs.PlainClients.{ends_by_client}
+use Rattle.vcpu_run.specs.Credited.{ended_by}
+use Rattle.vcpu_run.specs.PlainClients.{ends_by_client, granted_in}
 use Rattle.vcpu_run.specs.PlainPairs.{IsNewBetween, IsNewPair, IsOpened, IsReadyPair, OpenPlainly, between_of, books_of}
 use Rattle.vcpu_run.specs.PlainRuns.{ArePlain}
-use Rattle.vcpu_run.specs.PlainScripts.{StandsPlainly, StartsAnew}
+use Rattle.vcpu_run.specs.PlainScripts.{StandsPlainly, StartsAnew, told_in}
 use Rattle.vcpu_run.specs.Ports.{unit_of}
 use Rattle.vcpu_run.specs.Scripts.{are_servers}
 use Rattle.vcpu_run.specs.declared.driver.Driver.{Driver}
@@ -29,16 +32,24 @@ use Rattle.vcpu_run.specs.declared.unit_seat.Seat.TheVariants as sits
 use Rattle.vcpu_run.proofs.Booted.{client_sits}
 use Rattle.vcpu_run.proofs.Homes.{all_at, at_home}
 use Rattle.vcpu_run.proofs.Listed.{held, is_held, mapped, there_is}
+use Rattle.vcpu_run.proofs.PlainBorne.{none_borne}
+use Rattle.vcpu_run.proofs.PlainTurning.{none_ended}
 use Rattle.vcpu_run.proofs.Seated.{client_plan}
 use Rattle.vcpu_run.proofs.Settling.{home_serves, no_servers, script_at}
 
 -- each script is as it was made
 abbrev pub ScriptsStart : List Script → Type 0
 ScriptsStart scripts = (i : ℕ) (script : Script) → slice_get scripts i ≡ Some script
-    → (granted u : ℕ) (pair : Pair) → StartsAnew pair → StandsPlainly granted u script pair
+    → (script.logs.items ≡ []) × ((granted u : ℕ) (pair : Pair) → StartsAnew pair → StandsPlainly granted u script pair)
 
 pub scripts_start : (partitions : List Partition) (scripts : List Script) → AreMade partitions scripts → ScriptsStart scripts
-scripts_start partitions scripts made i script found = (held (λ partition. IsMade partition i script) (slice_get partitions i) (made.each i script found)).2.plainly
+scripts_start partitions scripts made i script found =
+    let is = held (λ partition. IsMade partition i script) (slice_get partitions i) (made.each i script found) in
+    (is.2.fresh, is.2.plainly)
+
+-- so none of its lines has told anything
+none_told : (u : ℕ) (script : Script) → script.logs.items ≡ [] → told_in u script ≡ 0
+none_told u script fresh = ap (λ (rows : List LogRow). granted_in (ended_by u script.lines.now rows)) fresh ∙ ap granted_in (none_ended u script.lines.now)
 
 -- The server units are as they were made: each bears its number, and grants so many requests.
 pub record UnitsStart (granted home : ℕ) (list : List Unit) : Type 0 where
@@ -76,9 +87,9 @@ between_new granted unit driver pair made grants most opened = record {
   usable = opened.usable;
 }
 
-pair_new : (granted home k : ℕ) (list : List Unit) (pair : Pair) (driver : Driver) → UnitsStart granted home list → granted ≤ 200 → k < length list → pair.driver ≡ Some driver
-    → IsOpened pair driver → IsNewPair granted home (books_of list [] []) k pair
-pair_new granted home k list pair driver start most less is opened =
+pair_new : (granted told home k : ℕ) (list : List Unit) (pair : Pair) (driver : Driver) → told ≡ 0 → UnitsStart granted home list → granted ≤ 200 → k < length list → pair.driver ≡ Some driver
+    → driver.unit ≢ server_id home k → IsOpened pair driver → IsNewPair granted told home (books_of list [] []) k pair
+pair_new granted told home k list pair driver none start most less is apart opened =
     let unit = there_is list k less in
     record {
       unit = unit.0;
@@ -88,8 +99,12 @@ pair_new granted home k list pair driver start most less is opened =
       driver_is = is;
       new = between_new granted unit.0 driver pair (new_at (slice_get list k) unit.0 unit.1 (start.made k))
           (all_at (λ (u : Unit). u.logins.granted ≡ granted) list k unit.0 start.granting unit.1) most opened;
+      owed = omega (arith, none);
       lines = All-nil (λ (line : Grant). same_unit (unit_named line) (server_id home k) ≡ true → ends_by_client line ≡ true);
       tags = refl;
+      sent = opened.sent;
+      apart = λ same. apart (sym opened.unit ∙ same);
+      borne = none_borne [] (server_id home k) driver.client.rows (known_of pair.window).strokes opened.blank;
     }
 
 -- the server unit of a plain client
@@ -118,6 +133,8 @@ boots_plainly granted home partitions pairs scripts ports list home_is most plan
     let new : IsOpened pair driver.0 = driver_at pair pair.driver driver.0 driver.1 (opened k pair at) in
     let less : k < length list = omega (arith, slice_get_within pairs k pair at, many) in
     let home_script = script_at partitions pairs scripts ports server (units.Server serves.0) plan serves.1 in
+    let apart : driver.0.unit ≢ server_id home k =
+    λ same. let one : i ≡ home = ap (λ (id : UnitId). id.partition) (sym driver.2 ∙ same) in omega (arith, one, earlier, there) in
     let of : are_servers home_script.0.seats.items ≡ true = home_serves partitions pairs scripts ports server pair home_script.0 plan serves sat.1 home_script.1 in
     record {
       behind = record {
@@ -125,9 +142,9 @@ boots_plainly granted home partitions pairs scripts ports list home_is most plan
         servers = is_held (λ (s : Script). are_servers s.seats.items ≡ true) (slice_get scripts home) home_script.0 (ap (slice_get scripts) (sym there) ∙ home_script.1) of;
       };
       others = no_servers partitions pairs scripts ports server i script plan serves found earlier;
-      ready = is_held (IsReadyPair granted home (books_of list [] []) k) (slice_get pairs k) pair at
-          (inr (pair_new granted home k list pair driver.0 start most less driver.1 new));
+      ready = is_held (IsReadyPair granted (told_in u script) home (books_of list [] []) k) (slice_get pairs k) pair at
+          (inr (pair_new granted (told_in u script) home k list pair driver.0 (none_told u script (starts i script found).0) start most less driver.1 apart new));
       served = λ less upto. absurd (omega (arith, less));
       stands = is_held (StandsPlainly granted u script) (slice_get pairs k) pair at
-          (starts i script found granted u pair (record { driver = driver.0; driver_is = driver.1; server = new.server; client = new.client; queue = new.registered }));
+          ((starts i script found).1 granted u pair (record { driver = driver.0; driver_is = driver.1; server = new.server; client = new.client; queue = new.registered }));
     }

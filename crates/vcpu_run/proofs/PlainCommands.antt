@@ -65,13 +65,13 @@ in_range_is false why none = absurd (cc (none))
 
 pub command_says : (granted line : ℕ) (op : Op) (at at' : Between) (tag : ℕ) (sub : Submitted line op at.client at'.client (client_ports at) (client_ports at') tag)
     → FitsOp op → TalksPlainly granted at [] → at.client.login ≡ Idle → OnlySends false at.own at'.own → ServerStays at at'
-    → TalksPlainly granted at' (word_of (record { tag = next_tag at.client; slot = sub.slot; iu = units.Cmd sub.command; bytes = sub.put.0; pages = data_span op; table = table_span op }) ∷ [])
+    → TalksPlainly granted at' (word_of (record { tag = next_tag at.client; slot = sub.slot; iu = units.Cmd sub.command; bytes = sub.put.0; pages = data_span op; table = table_span op; start = op.at }) ∷ [])
 command_says granted line op at at' tag sub fits talks idle rest stays =
     plainly_sends granted at at' ask (srp_entry (length sub.put.0) (slot_address sub.slot)) talks went.registered sends went.put
     (unit_said at'.window ask went.put.usable sends.is_ask went.stands)
   where
     ask : Ask
-    ask = record { tag = next_tag at.client; slot = sub.slot; iu = units.Cmd sub.command; bytes = sub.put.0; pages = data_span op; table = table_span op }
+    ask = record { tag = next_tag at.client; slot = sub.slot; iu = units.Cmd sub.command; bytes = sub.put.0; pages = data_span op; table = table_span op; start = op.at }
 
     inside : op_in_range at.window.place.size op ≡ true
     inside = in_range_is (op_in_range at.window.place.size op) (refused_by at.client.granted (length at.client.outgoing) (first_sharing op at.client.outgoing)) sub.allowed
@@ -109,13 +109,13 @@ went_put granted line slot at at' iu put calm within rest stays =
 
 pub task_says : (granted line function task : ℕ) (at at' : Between) (tag : ℕ) (sub : Tasked line function task at.client at'.client (client_ports at) (client_ports at') tag)
     → TalksPlainly granted at [] → at.client.login ≡ Idle → OnlySends false at.own at'.own → ServerStays at at'
-    → TalksPlainly granted at' (word_of (record { tag = next_tag at.client; slot = sub.slot; iu = task_unit function task at.client; bytes = sub.put.put.0; pages = no_pages; table = no_pages }) ∷ [])
+    → TalksPlainly granted at' (word_of (record { tag = next_tag at.client; slot = sub.slot; iu = task_unit function task at.client; bytes = sub.put.put.0; pages = no_pages; table = no_pages; start = 0 }) ∷ [])
 task_says granted line function task at at' tag sub talks idle rest stays =
     plainly_sends granted at at' ask (srp_entry (length sub.put.put.0) (slot_address sub.slot)) talks went.registered sends went.put
     (unit_said at'.window ask went.put.usable sends.is_ask went.stands)
   where
     ask : Ask
-    ask = record { tag = next_tag at.client; slot = sub.slot; iu = task_unit function task at.client; bytes = sub.put.put.0; pages = no_pages; table = no_pages }
+    ask = record { tag = next_tag at.client; slot = sub.slot; iu = task_unit function task at.client; bytes = sub.put.put.0; pages = no_pages; table = no_pages; start = 0 }
 
     went : UnitWent at at' sub.slot no_pages sub.put.put.0
     went = went_put granted line sub.slot at at' (task_unit function task at.client) sub.put talks.calm (omega (arith, (slot_free at.client sub.slot idle sub.put.put.1.1).0)) rest stays
@@ -125,13 +125,13 @@ task_says granted line function task at at' tag sub talks idle rest stays =
 
 pub logout_says : (granted line : ℕ) (at at' : Between) (tag : ℕ) (sub : LoggedOut line at.client at'.client (client_ports at) (client_ports at') tag)
     → TalksPlainly granted at [] → at.client.login ≡ Idle → OnlySends false at.own at'.own → ServerStays at at'
-    → TalksPlainly granted at' (word_of (record { tag = next_tag at.client; slot = sub.slot; iu = logout_unit at.client; bytes = sub.put.put.0; pages = no_pages; table = no_pages }) ∷ [])
+    → TalksPlainly granted at' (word_of (record { tag = next_tag at.client; slot = sub.slot; iu = logout_unit at.client; bytes = sub.put.put.0; pages = no_pages; table = no_pages; start = 0 }) ∷ [])
 logout_says granted line at at' tag sub talks idle rest stays =
     plainly_out granted at at' ask (srp_entry (length sub.put.put.0) (slot_address sub.slot)) talks went.registered sends went.put
     (unit_said at'.window ask went.put.usable sends.is_ask went.stands)
   where
     ask : Ask
-    ask = record { tag = next_tag at.client; slot = sub.slot; iu = logout_unit at.client; bytes = sub.put.put.0; pages = no_pages; table = no_pages }
+    ask = record { tag = next_tag at.client; slot = sub.slot; iu = logout_unit at.client; bytes = sub.put.put.0; pages = no_pages; table = no_pages; start = 0 }
 
     went : UnitWent at at' sub.slot no_pages sub.put.put.0
     went = went_put granted line sub.slot at at' (logout_unit at.client) sub.put talks.calm (omega (arith, (slot_free at.client sub.slot idle sub.put.put.1.1).0)) rest stays

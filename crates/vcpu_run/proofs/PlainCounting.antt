@@ -13,13 +13,14 @@ use Rattle.vcpu_run.specs.Credited.{taken_in}
 use Rattle.vscsi_client.specs.State.{tags_of}
 use Rattle.vscsi_client.specs.declared.outgoing.Outgoing.{Outgoing}
 use Rattle.vcpu_run.specs.PlainSteps.{AreReplayedAs, FollowsReplay, HasTaken, HasToDo, LeavesTook, Own, StepsPlainly, TakesEntries, TakesPlainly, beside}
-use Rattle.vcpu_run.specs.PlainTalk.{Between, ServerStays, TalksPlainly}
+use Rattle.vcpu_run.specs.PlainTalk.{Between, ServerStays, TalksPlainly, owes}
 use Rattle.vcpu_run.specs.Replay.{Asked as Replayed, Replay, answered}
 use Rattle.vcpu_run.specs.declared.script.Progress.{Progress}
 use Rattle.vcpu_run.specs.declared.taking.Took.{Took}
 use Rattle.vcpu_run.specs.declared.taking.Took.TheVariants as tooks
 use Rattle.vcpu_run.proofs.PlainAsking.{follows_still, none_anew, stood_still}
 use Rattle.vcpu_run.proofs.PlainMiddle.{KeptThere, kept_there, seeing}
+use Rattle.vcpu_run.proofs.PlainOwed.{told_idle}
 
 -- What a line that takes so many answers has done in one step, from so many on to so many: as often it took one.
 pub record TakesSoFar (count from to often : ℕ) (old new : Own) : Type 0 where
@@ -144,6 +145,7 @@ ends_full count from to often p p' old new is enough far = λ plain granted unit
       words = [];
       talks = left.0;
       anew = none_anew old.client new.client (same_rows granted _ _ (beside unit server old) (beside unit server' new) refl come.left left.1.left);
+      told = told_idle granted (owes (beside unit server old) []) (beside unit server' new) [] (steps.Ends (outcomes.Took to)) left.0 left.1.left.login refl;
       replayed = (
         ap outcomes.Took (omega (arith, enough, left.1.wanted, left.1.there)),
         subst (λ (n : ℕ). FollowsReplay granted (answered n now) (beside unit server' new)) (omega (arith, enough, left.1.wanted)) left.1.left,
@@ -230,6 +232,7 @@ ends_none count from to often tags p p' old middle new is less tags_are none far
       words = [];
       talks = left.0;
       anew = none_anew old.client new.client (same_rows granted _ _ (beside unit server old) (beside unit server' new) refl come.left left.1.0);
+      told = told_idle granted (owes (beside unit server old) []) (beside unit server' new) [] (steps.Ends (outcomes.Took to)) left.0 left.1.0.login refl;
       replayed = (
         ap outcomes.Took (omega (arith, less, long, left.2)),
         subst (λ (list : List Replayed). FollowsReplay granted (record now { outstanding = list }) (beside unit server' new))
@@ -248,6 +251,7 @@ waits_none count from to often tags p p' did old middle new is is' less tags_are
       words = [];
       talks = left.0;
       anew = none_anew old.client new.client (same_rows granted _ _ (beside unit server old) (beside unit server' new) refl come.left left.1.0);
+      told = told_idle granted (owes (beside unit server old) []) (beside unit server' new) [] (steps.Waits did) left.0 left.1.0.login refl;
       replayed = (
         subst (λ (n : ℕ). HasTaken granted count n now (beside unit server' new)) (sym is') (record { wanted = omega (arith, less); there = left.2; left = left.1.0 }),
         by granted unit server' now left.1.1 left.1.0,

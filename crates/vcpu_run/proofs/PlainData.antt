@@ -32,7 +32,7 @@ use Rattle.page_slots.specs.Stroke.{StrokeValue}
 -- ---- where data go
 
 -- a buffer has one table at most
-tables_few : (buffer : Buffer) → length (tables_of buffer) ≤ 1
+pub tables_few : (buffer : Buffer) → length (tables_of buffer) ≤ 1
 tables_few Absent = omega arith
 tables_few (Direct desc) = omega arith
 tables_few (Indirect table total list) = by (is_complete table list)
@@ -46,7 +46,7 @@ nothing [] none = refl
 nothing (x ∷ list) none = absurd (cc (none))
 
 -- what is read as its table is what stands there
-table_read : (window : PortState) → IsOwnWindow window → (span : Span) (bytes read : List ℕ) (tables : List Desc) → length tables ≤ 1 → length read ≡ sum_of tables
+pub table_read : (window : PortState) → IsOwnWindow window → (span : Span) (bytes read : List ℕ) (tables : List Desc) → length tables ≤ 1 → length read ≡ sum_of tables
     → length bytes ≡ sum_of tables → All (TableStands window span bytes) tables → IsFetched (stood window) tables read → read ≡ bytes
 table_read window own span bytes read [] few long whole stand fetched = nothing read long ∙ sym (nothing bytes whole)
 table_read window own span bytes read (table ∷ []) few long whole stand fetched =
@@ -119,7 +119,12 @@ no_data window ask none = record {
   whole = sym (ap table_len none);
   table = subst (λ (buffer : Buffer). All (TableStands window ask.table []) (tables_of buffer)) (sym none) (All-nil (TableStands window ask.table []));
   goes = λ list is. subst (All (LiesOn ask.pages)) (sym (none_named list (sym (ap (λ (buffer : Buffer). pieces buffer []) none) ∙ is))) (All-nil (LiesOn ask.pages));
+  places = λ list is j less. absurd (no_byte j
+      (subst (λ (list : List Desc). j < sum_of list) (none_named list (sym (ap (λ (buffer : Buffer). pieces buffer []) none) ∙ is)) less));
 }
+  where
+    no_byte : (j : ℕ) → j < sum_of [] → ⊥
+    no_byte j less = omega (arith, less)
 
 -- ---- what leaves tables as they are
 
@@ -144,6 +149,7 @@ data_stays old new ask same data' = record {
   whole = data'.whole;
   table = All-weaker (TableStands old ask.table data'.bytes) (TableStands new ask.table data'.bytes) still (tables_of (inn_of ask.iu)) data'.table;
   goes = data'.goes;
+  places = data'.places;
 }
   where
     still : (table : Desc) → TableStands old ask.table data'.bytes table → TableStands new ask.table data'.bytes table

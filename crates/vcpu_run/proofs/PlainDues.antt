@@ -18,8 +18,10 @@ use Rattle.vscsi_client.specs.declared.stage.Stage.{Stage}
 use Rattle.vscsi_client.specs.declared.stage.Stage.TheVariants.{Idle, Sent, Written}
 use Rattle.vscsi_client.specs.Units.{slot_address}
 use Rattle.vcpu_run.specs.PlainTalk.{Between, IsOwnWindow}
+use Rattle.vcpu_run.specs.TagRows.{is_inward, row_at}
 use Rattle.vcpu_run.proofs.PlainRests.{AtRest, Clears, Rests, Since}
 use Rattle.vcpu_run.proofs.PlainUnsent.{none_in_use}
+use Rattle.vcpu_run.proofs.TagsKept.{row_here}
 
 -- The client was at rest there, with no login under way.
 pub record Ready (granted : ℕ) (at : Between) (c : Site) : Type 0 where
@@ -178,6 +180,7 @@ pub record IsOver (c : ClientState) (slot : ℕ) (s : ClientState) : Type 0 wher
   pub granted : s.granted ≡ c.granted
   pub outgoing : s.outgoing ≡ c.outgoing
   pub rows : length s.rows ≡ length c.rows + 1
+  pub login_row : is_inward (row_at s.rows (next_tag c)) ≡ false
 
 pub put_over : (granted line : ℕ) (at : Between) (b : Site) (answer : SendAnswer) → (is : IsPut granted line at b answer) → is_dropped answer ≡ false
     → IsOver is.c.client is.wrote.slot b.client
@@ -188,6 +191,10 @@ put_over granted line at b answer is put = record {
   granted = ap (λ (s : ClientState). s.granted) client ∙ ap (λ (s : ClientState). s.granted) is.wrote.client;
   outgoing = ap (λ (s : ClientState). s.outgoing) client ∙ ap (λ (s : ClientState). s.outgoing) is.wrote.client;
   rows = ap (λ (s : ClientState). length s.rows) client ∙ ap (λ (s : ClientState). length s.rows) is.wrote.client ∙ length-append is.c.client.rows (rows.Login ∷ []);
+  login_row =
+      ap (λ (s : ClientState). is_inward (row_at s.rows (next_tag is.c.client))) client
+      ∙ ap (λ (s : ClientState). is_inward (row_at s.rows (next_tag is.c.client))) is.wrote.client
+      ∙ ap is_inward (row_here is.c.client.rows rows.Login);
 }
   where
     client : b.client ≡ record is.mid { due = is.puts.others; login = sent_stage dues.Login is.mid.login }

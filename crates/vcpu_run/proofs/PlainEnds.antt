@@ -12,7 +12,7 @@ use Rattle.block_server.specs.declared.unit.Unit.{Unit}
 use Rattle.vscsi_client.specs.declared.outgoing.Outgoing.{Outgoing}
 use Rattle.vscsi_client.specs.declared.stage.Stage.{Stage}
 use Rattle.vscsi_client.specs.declared.stage.Stage.TheVariants.{Idle}
-use Rattle.vcpu_run.specs.PlainTalk.{AreApart, CountsAsked, AreInOrder, ArePending, Ask, AskedParts, Between, HasAnswer, DataLies, HaveAnswers, IsAsk, IsTalking, SaysOfLogin, TagsRise, all_asked, grants_one, has_login, is_granted, is_login, is_logout, is_sent, login_name}
+use Rattle.vcpu_run.specs.PlainTalk.{AreApart, CountsAsked, AreInOrder, ArePending, Ask, AskedParts, Between, HasAnswer, DataLies, HaveAnswers, IsAsk, IsTalking, SaysOfLogin, TagsRise, all_asked, grants_one, has_login, is_granted, is_login, is_logout, is_sent, login_name, StartsAt}
 use Rattle.vcpu_run.proofs.PlainAsks.{all_parts, no_front}
 use Rattle.vcpu_run.proofs.PlainLists.{answers_plain, granted_push, last_login, no_login}
 
@@ -181,6 +181,7 @@ granted_talk granted at at' asked answers kept entry come response talk is login
   within = subst (λ (list : List Outgoing). length list ≤ 200) (sym ends.outgoing) (omega arith);
   counts = subst (λ (u : Unit). CountsAsked u []) (sym ends.unit) (subst (CountsAsked at.unit) last.pending talk.counts);
   tables = All-nil (DataLies at'.window);
+  starts = All-nil (StartsAt at'.client.rows);
   spared = tt;
   login = record {
     credits = inr (ends.granted ∙ ap (λ (n : ℕ). Some (min n 200)) grant);

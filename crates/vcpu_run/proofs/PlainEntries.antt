@@ -14,6 +14,7 @@ use Rattle.vcpu_run.specs.PlainTalk.{Between}
 use Rattle.vcpu_run.specs.Replay.{Replay}
 use Rattle.vcpu_run.specs.declared.taking.Took.{Took}
 use Rattle.vcpu_run.specs.declared.taking.Took.TheVariants as tooks
+use Rattle.vcpu_run.proofs.PlainFails.{takes_failed}
 use Rattle.vcpu_run.proofs.PlainOldest.{LeavesTaken, take_leaves}
 
 -- what an entry that a client took is to its driver
@@ -70,6 +71,7 @@ takes_alone old new taken takes only reads = record {
   leaves = λ granted unit server server' now stays talks follows.
       let left = take_leaves granted now (beside unit server old) (beside unit server' new) taken talks follows stays takes only reads in
       (left.0, leaves_as granted now (beside unit server' new) taken left.1);
+  failed = λ granted unit server server' stays talks fails. takes_failed granted (beside unit server old) (beside unit server' new) taken talks fails stays takes only reads;
 }
   where
     more : (rows : List PipeRow) × (new.end.taken ≡ old.end.taken ++ rows)

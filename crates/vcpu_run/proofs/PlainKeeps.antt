@@ -12,6 +12,7 @@ use Rattle.vscsi_client.specs.declared.stage.Stage.TheVariants.{Idle}
 use Rattle.vcpu_run.specs.PlainTalk.{CountsAsked, ArePending, AskedParts, Between, HaveAnswers, IsAsk, IsTalking, KeepsTables, KeepsSlots, TagsRise, all_asked, is_logout, is_sent, login_name, on_behind}
 use Rattle.vcpu_run.proofs.PlainReady.{all_front}
 use Rattle.vcpu_run.proofs.PlainServed.{all_kept, all_spared, answers_move}
+use Rattle.vcpu_run.proofs.PlainStarts.{KeepPlaces, starts_behind}
 
 -- What a client that keeps an answer for later leaves as it was.
 pub record KeepsEntry (at at' : Between) : Type 0 where
@@ -28,6 +29,7 @@ pub record KeepsEntry (at at' : Between) : Type 0 where
   pub login : at'.client.login ≡ at.client.login
   pub logout : at'.client.logout ≡ at.client.logout
   pub rows : length at'.client.rows ≡ length at.client.rows
+  pub places : KeepPlaces at.client.rows at'.client.rows
 
 pub kept_talk : (granted : ℕ) (at at' : Between) (asked : AskedParts) (answers : List Iu) → IsTalking granted at [] asked answers → KeepsEntry at at'
     → IsTalking granted at' [] asked answers
@@ -57,6 +59,7 @@ kept_talk granted at at' asked answers talk keeps = record {
   within = subst (λ (list : List Outgoing). length list ≤ 200) (sym keeps.outgoing) talk.within;
   counts = subst (λ (u : Unit). CountsAsked u asked.pending) (sym keeps.unit) talk.counts;
   tables = all_kept at.window at'.window (λ ask. ⊤) keeps.tables (asked.pending ++ asked.coming) (all_spared (asked.pending ++ asked.coming)) talk.tables;
+  starts = starts_behind at.client.rows at'.client.rows keeps.places asked.answered (asked.pending ++ asked.coming) talk.tags talk.starts;
   spared = talk.spared;
   login = record {
     credits = subst (λ (known : Option ℕ). (known ≡ None) ⊎ (known ≡ Some (min granted 200))) (sym keeps.granted) talk.login.credits;

@@ -15,7 +15,7 @@ use Rattle.block_server.specs.declared.service.Outcome.{Outcome}
 use Rattle.block_server.specs.declared.service.Outcome.TheVariants as outcomes
 use Rattle.vscsi_client.specs.Units.{slot_address}
 use Rattle.vscsi_client.specs.declared.TheConstants.{DATA_START}
-use Rattle.vcpu_run.specs.PlainTalk.{Ask, GoesBehind, IsAsk, IsOwnWindow, IsPendingAs, KeepsSlots, is_grant}
+use Rattle.vcpu_run.specs.PlainTalk.{Ask, GoesBehind, IsAsk, IsOwnEntry, IsOwnWindow, IsPendingAs, KeepsSlots, is_grant}
 use Rattle.vcpu_run.proofs.PlainPages.{IsApart, shown, shown_apart, shown_on}
 use Rattle.vcpu_run.proofs.PlainSlots.{behind_apart, slot_on, slots_apart}
 use Rattle.vcpu_run.proofs.PlainStands.{IsOnPage, shown_stand, stand_shown}
@@ -42,7 +42,7 @@ lays_apart Ranges old new address len own lays fits apart =
 pub lays_own : (Ranges : (address len : ℕ) → Type 0) (old new : PortState) → IsOwnWindow old → new.place ≡ old.place → LaysWithin Ranges (known_in old) (known_in new)
     → IsOwnWindow new
 lays_own Ranges old new own place lays = record {
-  values = λ e. ap (λ (values : ℕ → List ℕ). values e) lays.values ∙ own.values e;
+  values = λ e. subst (IsOwnEntry e) (sym (ap (λ (values : ℕ → List ℕ). values e) lays.values)) (own.values e);
   size = subst (λ n. DATA_START ≤ 4096 * n) (sym (ap (λ place. place.size) place)) own.size;
   most = subst (λ n. n ≤ 256) (sym (ap (λ place. place.size) place)) own.most;
   there = λ p below. still (StrokeLiesInOne old.values Ranges p) (old.strokes p) (new.strokes p) (lays.strokes p)

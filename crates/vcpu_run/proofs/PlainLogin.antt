@@ -27,6 +27,7 @@ use Rattle.vcpu_run.proofs.PlainPuts.{LeavesUnit, LeavesWindow, entry_put, unit_
 use Rattle.vcpu_run.proofs.PlainRooms.{put_success}
 use Rattle.vcpu_run.proofs.PlainSays.{EntryPut, calm_asks}
 use Rattle.vcpu_run.proofs.PlainSlots.{keeps_same, unit_said}
+use Rattle.vcpu_run.proofs.PlainStarts.{push_places, starts_none}
 use Rattle.vcpu_run.proofs.PlainTurns.{come_same}
 use Rattle.vcpu_run.proofs.PlainUnits.{canon_some}
 
@@ -38,7 +39,7 @@ login_free s slot (inr behind) = (omega (arith, behind.1), inr behind.1)
 pub login_says : (granted line : ℕ) (at at' : Between) (asked : AskedParts) (answers : List Iu) (mid : ClientState) (answer : SendAnswer) → IsCalm granted at []
     → IsTalking granted at [] asked answers → at.client.tabled ≡ None → at.client.login ≡ Idle → IsGrantable 0 (login_request at.client.id at.client.server (next_tag at.client))
     → (wrote : WritesLogin false line (login_due at.client) mid at.window at'.window) → Puts false mid at'.client at.own at'.own dues.Login answer → ServerStays at at'
-    → TalksPlainly granted at' (word_of (record { tag = next_tag at.client; slot = wrote.slot; iu = units.LoginReq (login_request at.client.id at.client.server (next_tag at.client)); bytes = wrote.bytes; pages = no_pages; table = no_pages }) ∷ [])
+    → TalksPlainly granted at' (word_of (record { tag = next_tag at.client; slot = wrote.slot; iu = units.LoginReq (login_request at.client.id at.client.server (next_tag at.client)); bytes = wrote.bytes; pages = no_pages; table = no_pages; start = 0 }) ∷ [])
 login_says granted line at at' asked answers mid answer calm talk tabled idle fair wrote puts stays = record {
   calm = calm_asks granted at at' (srp_entry (length wrote.bytes) (slot_address wrote.slot)) (word_of ask) calm put
       (unit_said at'.window ask unit.own is_ask unit.stands);
@@ -54,6 +55,7 @@ login_says granted line at at' asked answers mid answer calm talk tabled idle fa
       bytes = wrote.bytes;
       pages = no_pages;
       table = no_pages;
+      start = 0;
     }
 
     free : (wrote.slot ≤ SLOTS) × IsFreeFor at.client wrote.slot
@@ -104,6 +106,9 @@ login_says granted line at at' asked answers mid answer calm talk tabled idle fa
     stage_sent (Sent t s) tag slot is = absurd (cc (is))
     stage_sent Idle tag slot is = absurd (cc (is))
 
+    more : at'.client.rows ≡ at.client.rows ++ rows.Login ∷ []
+    more = ap (λ (s : ClientState). s.rows) client ∙ ap (λ (s : ClientState). s.rows) wrote.client
+
     sends : SendsLogin at at' ask
     sends = record {
       unit = stays.unit;
@@ -118,6 +123,8 @@ login_says granted line at at' asked answers mid answer calm talk tabled idle fa
       none = (refl, refl);
       next = refl;
       rows = ap (λ (s : ClientState). length s.rows) client ∙ ap (λ (s : ClientState). length s.rows) wrote.client ∙ length-append at.client.rows (rows.Login ∷ []);
+      places = push_places at.client.rows at'.client.rows rows.Login more;
+      starts = starts_none at.client.rows at'.client.rows rows.Login ask more refl refl;
       login = ap (λ (s : ClientState). s.login) client ∙ stage_sent mid.login (next_tag at.client) wrote.slot written;
       handshake = ap (λ (s : ClientState). s.handshake) client ∙ ap (λ (s : ClientState). s.handshake) wrote.client;
       due = ap (λ (s : ClientState). s.due) client ∙ others ∙ sym talk.due;

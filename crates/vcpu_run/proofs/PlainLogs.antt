@@ -16,10 +16,11 @@ use Rattle.vscsi_client.specs.declared.outgoing.Span.{Span}
 use Rattle.vscsi_client.specs.declared.stage.Stage.{Stage}
 use Rattle.vscsi_client.specs.declared.stage.Stage.TheVariants.{Idle, Sent}
 use Rattle.vcpu_run.proofs.PlainData.{login_none, meets_none, no_data, spared_push}
-use Rattle.vcpu_run.specs.PlainTalk.{AreApart, CountsAsked, AreInOrder, ArePending, AreSpared, Ask, AskedParts, Between, DataLies, HaveAnswers, IsAsk, IsTalking, KeepsTables, KeepsSlots, TagsRise, all_asked, has_login, is_login, is_logout, is_sent, login_name, name_of, names_of, on_behind, word_of}
+use Rattle.vcpu_run.specs.PlainTalk.{AreApart, CountsAsked, AreInOrder, ArePending, AreSpared, Ask, AskedParts, Between, DataLies, HaveAnswers, IsAsk, IsTalking, KeepsTables, KeepsSlots, TagsRise, all_asked, has_login, is_login, is_logout, is_sent, login_name, name_of, names_of, on_behind, word_of, StartsAt}
 use Rattle.vcpu_run.proofs.PlainAsks.{all_parts, apart_push, free_outgoing, login_parts, names_push, neither, none_coming}
 use Rattle.vcpu_run.proofs.PlainLists.{login_no_logout, login_push, rise_push}
 use Rattle.vcpu_run.proofs.PlainServed.{all_kept, all_spared, answers_move}
+use Rattle.vcpu_run.proofs.PlainStarts.{KeepPlaces, starts_behind}
 
 -- ---- lists
 
@@ -98,6 +99,8 @@ pub record SendsLogin (at at' : Between) (ask : Ask) : Type 0 where
   pub none : (ask.pages ≡ no_pages) × (ask.table ≡ no_pages)
   pub next : ask.tag ≡ length at.client.rows + 1
   pub rows : length at'.client.rows ≡ length at.client.rows + 1
+  pub places : KeepPlaces at.client.rows at'.client.rows
+  pub starts : StartsAt at'.client.rows ask
   pub login : at'.client.login ≡ Sent ask.tag ask.slot
   pub handshake : at'.client.handshake ≡ at.client.handshake
   pub due : at'.client.due ≡ at.client.due
@@ -144,6 +147,9 @@ logs_in granted at at' asked answers ask talk sends = record {
   tables = All-push (DataLies at'.window) asked.pending ask
       (all_kept at.window at'.window (λ other. ⊤) sends.tables asked.pending (all_spared asked.pending) (subst (All (DataLies at.window)) pending talk.tables))
       (no_data at'.window ask (login_none ask.iu sends.is_login));
+  starts = All-push (StartsAt at'.client.rows) asked.pending ask
+      (starts_behind at.client.rows at'.client.rows sends.places asked.answered asked.pending (subst (TagsRise (length at.client.rows)) before talk.tags)
+      (subst (All (StartsAt at.client.rows)) pending talk.starts)) sends.starts;
   spared = spared_push asked.pending ask (subst AreSpared pending talk.spared) (all_clear asked.pending);
   login = record {
     credits = subst (λ (known : Option ℕ). (known ≡ None) ⊎ (known ≡ Some (min granted 200))) (sym sends.granted) talk.login.credits;

@@ -25,6 +25,7 @@ use Rattle.vcpu_run.proofs.PlainKeeps.{kept_talk}
 use Rattle.vcpu_run.proofs.PlainLooks.{all_about, login_answer, tells_login, tells_other}
 use Rattle.vcpu_run.proofs.PlainPuts.{LeavesWindow}
 use Rattle.vcpu_run.proofs.PlainRejects.{EndsRejected, rejected_talk}
+use Rattle.vcpu_run.proofs.PlainStarts.{same_places}
 use Rattle.vcpu_run.proofs.PlainStill.{reads_data, reads_leave}
 use Rattle.vcpu_run.proofs.PlainTaking.{poll_come}
 
@@ -123,6 +124,7 @@ took_looked granted at at' asked answers mid found calm talk takes looks stays =
         login = ap (λ (s : ClientState). s.login) now;
         logout = ap (λ (s : ClientState). s.logout) now;
         rows = ap (λ (s : ClientState). length s.rows) now;
+        places = same_places at.client.rows at'.client.rows (ap (λ (s : ClientState). s.rows) now);
       });
     }
       where

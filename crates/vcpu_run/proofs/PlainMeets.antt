@@ -26,7 +26,7 @@ use Rattle.vscsi_client.specs.declared.outgoing.Outgoing.{Outgoing}
 use Rattle.vscsi_client.specs.declared.stage.Due.{Due}
 use Rattle.vscsi_client.specs.declared.stage.Stage.TheVariants.{Idle}
 use Rattle.vscsi_client.specs.declared.stage.Stage.{Stage}
-use Rattle.vcpu_run.specs.PlainTalk.{ArePending, Ask, Between, DataLies, HaveAnswers, HearsOfClient, IsAsk, IsBeginning, IsCalm, IsTalking, SaysOfLogin, ServerStays, is_logout, is_sent, login_name}
+use Rattle.vcpu_run.specs.PlainTalk.{ArePending, Ask, Between, DataLies, HaveAnswers, HearsOfClient, IsAsk, IsBeginning, IsCalm, IsTalking, SaysOfLogin, ServerStays, is_logout, is_sent, login_name, StartsAt}
 use Rattle.vcpu_run.proofs.PlainLooked.{some_same, takes_on}
 use Rattle.vcpu_run.proofs.PlainTaking.{poll_come}
 
@@ -109,6 +109,7 @@ meets_plainly granted at at' mid found begun takes looks stays = by begun.heard
           outstanding = λ on. absurd (omega (arith, on, current));
         };
         tables = All-nil (DataLies at'.window);
+        starts = All-nil (StartsAt at'.client.rows);
         spared = tt;
         login = record {
           credits = inl known;

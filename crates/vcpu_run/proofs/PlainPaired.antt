@@ -19,7 +19,7 @@ use Rattle.crq_session.specs.PlainState.{end_of, side_of}
 use Rattle.crq_session.specs.declared.handshake.Handshake.TheVariants.{Down, Waiting}
 use Rattle.crq_session.specs.declared.link.PlainLink.{PlainLink}
 use Rattle.tce_window.specs.PlainPort.{known_of}
-use Rattle.tce_window.specs.PortState.{PortState}
+use Rattle.tce_window.specs.PortState.{PortPlace, PortState}
 use Rattle.block_server.specs.Advances.{PutsMore}
 use Rattle.block_server.specs.Makers.{same_unit}
 use Rattle.block_server.specs.Ranges.{WritesOn, seen_in}
@@ -34,29 +34,37 @@ use Rattle.block_server.specs.declared.request.Request.{Request}
 use Rattle.block_server.specs.declared.service.Outcome.{Outcome}
 use Rattle.block_server.specs.declared.service.Outcome.TheVariants as outcomes
 use Rattle.block_server.specs.declared.unit.Unit.{Unit}
+use Rattle.vscsi_client.specs.State.{ClientState}
 use Rattle.vcpu_run.specs.declared.driver.Driver.{Driver}
 use Rattle.vcpu_run.specs.declared.pair.Pair.{Pair}
 use Rattle.vcpu_run.specs.Machines.{server_id}
-use Rattle.vcpu_run.specs.PlainClients.{ends_by_client}
+use Rattle.vcpu_run.specs.PlainBorne.{AreBorne, rows_by}
+use Rattle.vcpu_run.specs.PlainClients.{ends_by_client, grants_of}
 use Rattle.vcpu_run.specs.PlainPairs.{EndByClient, IsIdleUnit, IsNewPair, IsPlainPair, IsReadyPair, ServerBooks, SparesUnit, between_of}
-use Rattle.vcpu_run.specs.PlainRows.{TagsKept, tags_by}
-use Rattle.vcpu_run.specs.PlainTalk.{Between, ClientStays, IsCalm, IsOwnWindow, TalksPlainly, TookNoMore}
+use Rattle.vcpu_run.specs.PlainRows.{TagsKept, tags_by, AnswersKept}
+use Rattle.vcpu_run.specs.PlainTalk.{Between, ClientStays, IsCalm, IsOwnWindow, TalksPlainly, TookNoMore, owes}
 use Rattle.vcpu_run.proofs.PlainAnswered.{plainly_served}
 use Rattle.vcpu_run.proofs.PlainBegins.{starts_plainly}
+use Rattle.vcpu_run.proofs.PlainGrants.{less_lines, owed_behind}
+use Rattle.vcpu_run.proofs.PlainOwed.{owes_none}
+use Rattle.vcpu_run.proofs.PlainGiven.{answers_behind, answers_new}
+use Rattle.vcpu_run.proofs.PlainLaid.{borne_served}
 use Rattle.vcpu_run.proofs.PlainReady.{talk_ready}
-use Rattle.vcpu_run.proofs.PlainTags.{tags_else, tags_new, tags_next}
+use Rattle.vcpu_run.proofs.PlainTags.{rows_spared, tags_new, tags_next}
 use Rattle.vcpu_run.proofs.PlainTurned.{lent_at, own_behind, talks_lent}
 use Rattle.vcpu_run.proofs.PlainTurns.{Turns}
 
 -- ---- the ends of the link
 
--- What the clauses of a turn of server unit k say, between these states of its queue's end and of its client's window.
-pub record TurnsOn (books books' : ServerBooks) (k : ℕ) (before after : EndState) (window window' : PortState) : Type 0 where
+-- What the clauses of a turn of server unit k say, under whose name it lays strokes, between these states of its queue's end and of its client's
+-- window.
+pub record TurnsOn (name : UnitId) (books books' : ServerBooks) (k : ℕ) (before after : EndState) (window window' : PortState) : Type 0 where
   pub talks : (words : List Word) (u : Unit) → slice_get books.units k ≡ Some u → IsTurnReady u (reach before window false) false words
       → UnitTalksOn books'.units k u (reach before window false) after books.lines books'.lines words
   pub places : (words : List Word) (u : Unit) → slice_get books.units k ≡ Some u → IsTurnReady u (reach before window false) false words
       → WritesOn (stood window) u before words (seen_in false window) (seen_in false window')
-  pub leaves : (words : List Word) (u : Unit) → slice_get books.units k ≡ Some u → IsTurnReady u (reach before window false) false words → LeavesOn u before words after window'
+  pub leaves : (words : List Word) (u : Unit) → slice_get books.units k ≡ Some u → IsTurnReady u (reach before window false) false words
+      → LeavesOn name u before words after window window' books.rows books'.rows
   pub rows : (words : List Word) (u : Unit) → slice_get books.units k ≡ Some u → IsTurnReady u (reach before window false) false words → RowsOn u before words books.rows books'.rows
   pub opens : (u : Unit) → slice_get books.units k ≡ Some u → IsNewThere u (reach before window false) false
       → UnitOpensOn books'.units k u (reach before window false) (reach after window' false) books.lines books'.lines books.rows books'.rows
@@ -68,19 +76,20 @@ pub record TurnsOn (books books' : ServerBooks) (k : ℕ) (before after : EndSta
   pub window_place : window'.place ≡ window.place
 
 -- the same of one that ended well
-pub turns_ok : {T E : Type 0} (r : Result T E) (books books' : ServerBooks) (k : ℕ) (before after : EndState) (window window' : PortState)
+pub turns_ok : {T E : Type 0} (r : Result T E) (name : UnitId) (books books' : ServerBooks) (k : ℕ) (before after : EndState) (window window' : PortState)
     → ((words : List Word) (u : Unit) → slice_get books.units k ≡ Some u → IsTurnReady u (reach before window false) false words
     → OnOk r (UnitTalksOn books'.units k u (reach before window false) after books.lines books'.lines words))
     → ((words : List Word) (u : Unit) → slice_get books.units k ≡ Some u → IsTurnReady u (reach before window false) false words
     → OnOk r (WritesOn (stood window) u before words (seen_in false window) (seen_in false window')))
-    → ((words : List Word) (u : Unit) → slice_get books.units k ≡ Some u → IsTurnReady u (reach before window false) false words → OnOk r (LeavesOn u before words after window'))
+    → ((words : List Word) (u : Unit) → slice_get books.units k ≡ Some u → IsTurnReady u (reach before window false) false words
+    → OnOk r (LeavesOn name u before words after window window' books.rows books'.rows))
     → ((words : List Word) (u : Unit) → slice_get books.units k ≡ Some u → IsTurnReady u (reach before window false) false words → OnOk r (RowsOn u before words books.rows books'.rows))
     → ((u : Unit) → slice_get books.units k ≡ Some u → IsNewThere u (reach before window false) false
     → OnOk r (UnitOpensOn books'.units k u (reach before window false) (reach after window' false) books.lines books'.lines books.rows books'.rows))
     → ((u u' : Unit) → slice_get books.units k ≡ Some u → slice_get books'.units k ≡ Some u' → u'.id ≡ u.id)
     → after.place ≡ before.place → after.counts.partner_session ≡ before.counts.partner_session → PutsMore before.sent after.sent → TookNoMore after → window'.place ≡ window.place
-    → OnOk r (TurnsOn books books' k before after window window')
-turns_ok (Ok x) books books' k before after window window' talks places leaves rows opens ids place partner put took window_place = record {
+    → OnOk r (TurnsOn name books books' k before after window window')
+turns_ok (Ok x) name books books' k before after window window' talks places leaves rows opens ids place partner put took window_place = record {
   talks = talks;
   places = places;
   leaves = leaves;
@@ -93,7 +102,7 @@ turns_ok (Ok x) books books' k before after window window' talks places leaves r
   took = took;
   window_place = window_place;
 }
-turns_ok (Err e) books books' k before after window window' talks places leaves rows opens ids place partner put took window_place = tt
+turns_ok (Err e) name books books' k before after window window' talks places leaves rows opens ids place partner put took window_place = tt
 
 -- the client's end received more, and took nothing
 pub took_on : (old new : EndState) → new.last_session ≡ old.last_session → new.taken ≡ old.taken → (more : List PipeRow) → new.place.received ≡ old.place.received ++ more → TookNoMore old
@@ -222,10 +231,10 @@ tags_behind unit unit' old new lines lines' rows rows' words id last own turn on
     by (inr (request, rest, items, inl (order, out))) = served request rest items out.over.pending
     by (inr (request, rest, items, inr one)) = served request rest items one.put.over.pending
 
-served_plain : (granted home k : ℕ) (books books' : ServerBooks) (a b : List GName) (old new : Pair) (words : List Word) → new.driver ≡ old.driver
-    → TurnsOn books books' k (end_of a old.link true) (end_of b new.link true) (known_of old.window) (known_of new.window)
-    → IsPlainPair granted home books k words old → IsPlainPair granted home books' k [] new
-served_plain granted home k books books' a b old new words driver turns plain =
+served_plain : (granted told home k many : ℕ) (name : UnitId) (books books' : ServerBooks) (a b : List GName) (old new : Pair) (words : List Word) → new.driver ≡ old.driver
+    → ∥ LinesMore (server_id home k) many books.lines books'.lines ∥₁ → TurnsOn name books books' k (end_of a old.link true) (end_of b new.link true) (known_of old.window) (known_of new.window)
+    → IsPlainPair granted told home books k words old → IsPlainPair granted told home books' k [] new
+served_plain granted told home k many name books books' a b old new words driver more turns plain =
     let at : Between = lent_at a [] (between_of plain.unit plain.driver old) in
     let talks : TalksPlainly granted at words = talks_lent a [] granted (between_of plain.unit plain.driver old) words plain.talks in
     let ready = talk_ready granted at words talks in
@@ -236,10 +245,13 @@ served_plain granted home k books books' a b old new words driver turns plain =
     let own : IsOwnWindow at'.window = own_behind at at' books.lines books'.lines words turn talks.calm.usable turns.window_place wrote in
     let stays = client_stays a b plain.unit on.unit' plain.driver old new turns.place turns.partner turns.put turns.took talks.calm.ends.own_took own in
     let after : TalksPlainly granted at' [] =
-    plainly_served granted at at' books.lines books'.lines words talks turn stays turns.window_place wrote (turns.leaves words plain.unit plain.there ready) in
+    plainly_served granted at at' books.lines books'.lines books.rows books'.rows name words talks turn stays turns.window_place wrote (turns.leaves words plain.unit plain.there ready) in
     let tags : TagsKept (tags_by (server_id home k) books'.rows) (length plain.driver.client.rows) on.unit'.pending.items =
     tags_behind plain.unit on.unit' (reach at.server at.window false) at'.server books.lines books'.lines books.rows books'.rows words (server_id home k) (length plain.driver.client.rows) plain.id turn
     (turns.rows words plain.unit plain.there ready) plain.tags in
+    let answers : AnswersKept (tags_by (server_id home k) books'.rows) plain.driver.client at'.server.sent on.unit'.pending.items =
+    answers_behind plain.unit on.unit' (reach at.server at.window false) at'.server books.lines books'.lines words books.rows books'.rows (server_id home k) plain.driver.client plain.id turn
+    (turns.rows words plain.unit plain.there ready) plain.tags plain.answers in
     record {
       unit = on.unit';
       there = on.there;
@@ -247,15 +259,20 @@ served_plain granted home k books books' a b old new words driver turns plain =
       driver = plain.driver;
       driver_is = driver ∙ plain.driver_is;
       talks = talks_lent [] [] granted at' [] after;
+      owed = owed_behind (server_id home k) told many at at' books.lines books'.lines words refl stays.registered turn more plain.owed;
       lines = end_more (server_id home k) books.lines books'.lines (turn_ends at at' books.lines books'.lines words turn) plain.lines;
       tags = λ talk heard. subst (λ (t : Talk). TagsKept (tags_by (server_id home k) books'.rows) (length plain.driver.client.rows) t.pending) (sym heard) tags;
+      answers = λ talk heard. subst (λ (t : Talk). AnswersKept (tags_by (server_id home k) books'.rows) plain.driver.client at'.server.sent t.pending) (sym heard) answers;
+      apart = λ same. plain.apart (sym (ap (λ (place : PortPlace). place.unit) turns.window_place) ∙ same);
+      borne = borne_served granted at at' books.lines books'.lines words books.rows books'.rows name (server_id home k) talks turn wrote (turns.leaves words plain.unit plain.there ready)
+          (turns.rows words plain.unit plain.there ready) plain.id plain.tags plain.borne;
     }
 
 -- its first one
-opened_pair : (granted home k : ℕ) (books books' : ServerBooks) (a b : List GName) (old new : Pair) → new.driver ≡ old.driver
-    → TurnsOn books books' k (end_of a old.link true) (end_of b new.link true) (known_of old.window) (known_of new.window)
-    → IsNewPair granted home books k old → IsPlainPair granted home books' k [] new
-opened_pair granted home k books books' a b old new driver turns is =
+opened_pair : (granted told home k : ℕ) (name : UnitId) (books books' : ServerBooks) (a b : List GName) (old new : Pair) → new.driver ≡ old.driver
+    → TurnsOn name books books' k (end_of a old.link true) (end_of b new.link true) (known_of old.window) (known_of new.window)
+    → IsNewPair granted told home books k old → IsPlainPair granted told home books' k [] new
+opened_pair granted told home k name books books' a b old new driver turns is =
     let at : Between = lent_at a [] (between_of is.unit is.driver old) in
     let made = is.new.made in
     let on = turns.opens is.unit is.there (record { alone = made.alone; apart = made.apart; unregistered = made.unregistered; partner = made.partner; event = made.event; made = made.made }) in
@@ -291,20 +308,31 @@ opened_pair granted home k books books' a b old new driver turns is =
             taking = ap (λ (l : Logins). l.taking) opens.logins ∙ made.made.taking;
             pending = opens.pending;
           }));
+      owed =
+          let none : owes (between_of on.unit' is.driver new) [] ≡ 0 = owes_none at' [] (inl (stays.registered ∙ is.new.registered)) in
+          let same : grants_of (server_id home k) books'.lines ≡ grants_of (server_id home k) books.lines = ap (grants_of (server_id home k)) on.opens.lines_are in
+          omega (arith, none, same, is.owed);
       lines = subst (EndByClient (server_id home k)) (sym on.opens.lines_are) is.lines;
       tags = λ talk heard.
           subst (λ (tags : List ℕ). TagsKept tags (length is.driver.client.rows) talk.pending) (sym (ap (tags_by (server_id home k)) on.opens.rows_are ∙ is.tags))
           (subst (TagsKept [] (length is.driver.client.rows)) (sym (ap (λ (t : Talk). t.pending) heard ∙ opens.pending)) (tags_new (length is.driver.client.rows)));
+      answers = λ talk heard.
+          answers_new (tags_by (server_id home k) books'.rows) is.driver.client at'.server.sent talk.pending (opens.sent ∙ is.sent) (ap (λ (t : Talk). t.pending) heard ∙ opens.pending)
+          (ap (λ (s : ClientState). s.outgoing) is.new.client.2);
+      apart = λ same. is.apart (sym (ap (λ (place : PortPlace). place.unit) turns.window_place) ∙ same);
+      borne = subst (λ (rows : List Served). AreBorne (rows_by (server_id home k) rows) (server_id home k) is.driver.client.rows (known_of new.window).strokes) (sym on.opens.rows_are)
+          (subst (λ (port : PortState). AreBorne (rows_by (server_id home k) books.rows) (server_id home k) is.driver.client.rows port.strokes) (sym opens.window) is.borne);
     }
   where
     waiting_down : Waiting ≡ Down → ⊥
     waiting_down e = cc (e)
 
-pub served_pair : (granted home k : ℕ) (books books' : ServerBooks) (a b : List GName) (old new : Pair) → new.driver ≡ old.driver
-    → TurnsOn books books' k (end_of a old.link true) (end_of b new.link true) (known_of old.window) (known_of new.window)
-    → IsReadyPair granted home books k old → IsPlainPair granted home books' k [] new
-served_pair granted home k books books' a b old new driver turns (inl (words, plain)) = served_plain granted home k books books' a b old new words driver turns plain
-served_pair granted home k books books' a b old new driver turns (inr is) = opened_pair granted home k books books' a b old new driver turns is
+pub served_pair : (granted told home k many : ℕ) (name : UnitId) (books books' : ServerBooks) (a b : List GName) (old new : Pair) → new.driver ≡ old.driver
+    → ∥ LinesMore (server_id home k) many books.lines books'.lines ∥₁ → TurnsOn name books books' k (end_of a old.link true) (end_of b new.link true) (known_of old.window) (known_of new.window)
+    → IsReadyPair granted told home books k old → IsPlainPair granted told home books' k [] new
+served_pair granted told home k many name books books' a b old new driver more turns (inl (words, plain)) =
+    served_plain granted told home k many name books books' a b old new words driver more turns plain
+served_pair granted told home k many name books books' a b old new driver more turns (inr is) = opened_pair granted told home k name books books' a b old new driver turns is
 
 -- ---- one in which nothing was done
 
@@ -348,10 +376,10 @@ same_way unit unit' is = ap (λ (w : UnderWay). w.pending) (held (under_way unit
 way_at : (units : List Unit) (k : ℕ) (unit : Unit) → slice_get units k ≡ Some unit → way_of units k ≡ Some (under_way unit)
 way_at units k unit there = ap (option_map under_way) there
 
-pub idles_pair : (granted home k : ℕ) (books books' : ServerBooks) (a b : List GName) (old new : Pair)
-    → TurnsOn books books' k (end_of a old.link true) (end_of b new.link true) (known_of old.window) (known_of new.window) → IsStill (end_of a old.link true) (end_of b new.link true)
-    → way_of books'.units k ≡ way_of books.units k → IsReadyPair granted home books k old → IsIdleUnit k books'
-idles_pair granted home k books books' a b old new turns still way (inl (words, plain)) =
+pub idles_pair : (granted told home k : ℕ) (name : UnitId) (books books' : ServerBooks) (a b : List GName) (old new : Pair)
+    → TurnsOn name books books' k (end_of a old.link true) (end_of b new.link true) (known_of old.window) (known_of new.window) → IsStill (end_of a old.link true) (end_of b new.link true)
+    → way_of books'.units k ≡ way_of books.units k → IsReadyPair granted told home books k old → IsIdleUnit k books'
+idles_pair granted told home k name books books' a b old new turns still way (inl (words, plain)) =
     let at : Between = lent_at a [] (between_of plain.unit plain.driver old) in
     let talks : TalksPlainly granted at words = talks_lent a [] granted (between_of plain.unit plain.driver old) words plain.talks in
     let on = turns.talks words plain.unit plain.there (talk_ready granted at words talks) in
@@ -359,7 +387,7 @@ idles_pair granted home k books books' a b old new turns still way (inl (words, 
     same_way plain.unit on.unit' (sym (way_at books'.units k on.unit' on.there) ∙ (way ∙ way_at books.units k plain.unit plain.there)) in
     subst (λ (o : Option Unit). IsSomeAnd o (λ unit. unit.pending.items ≡ [])) (sym on.there)
     (idle_turn plain.unit on.unit' (reach at.server at.window false) (end_of b new.link true) books.lines books'.lines words on.talks still same)
-idles_pair granted home k books books' a b old new turns still way (inr is) =
+idles_pair granted told home k name books books' a b old new turns still way (inr is) =
     let made = is.new.made in
     let on = turns.opens is.unit is.there (record { alone = made.alone; apart = made.apart; unregistered = made.unregistered; partner = made.partner; event = made.event; made = made.made }) in
     subst (λ (o : Option Unit). IsSomeAnd o (λ unit. unit.pending.items ≡ [])) (sym on.there) on.opens.opens.pending
@@ -394,6 +422,7 @@ pub spares_unit : (home k granted : ℕ) (books books' : ServerBooks) (by : Unit
     → ∥ LinesMore by granted books.lines books'.lines ∥₁ → ∥ OnlyRowsOf by books.rows books'.rows ∥₁ → SparesUnit home books books' k
 spares_unit home k granted books books' by apart same lines rows = record {
   same = same;
-  tags = tags_else (server_id home k) by books.rows books'.rows apart rows;
+  rows = rows_spared (server_id home k) by books.rows books'.rows apart rows;
+  grants = less_lines (server_id home k) by granted books.lines books'.lines lines;
   lines = λ end. ends_all (server_id home k) books'.lines (∥∥₁_map lines (λ more. other_more (server_id home k) by granted books.lines books'.lines apart more end));
 }

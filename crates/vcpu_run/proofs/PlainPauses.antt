@@ -23,9 +23,10 @@ use Rattle.vscsi_client.specs.declared.stage.Due.{Due}
 use Rattle.vscsi_client.specs.declared.stage.Due.TheVariants as dues
 use Rattle.vscsi_client.specs.declared.stage.Stage.{Stage}
 use Rattle.vscsi_client.specs.declared.stage.Stage.TheVariants.{Idle, Sent}
-use Rattle.vcpu_run.specs.PlainSteps.{AgreeOnCredits, AsksAnew, HasSentLogin, HasToDo, IsLoggingIn, IsNewWord, KeptApart}
+use Rattle.vcpu_run.specs.PlainSteps.{AgreeOnCredits, AsksAnew, HasSentLogin, HasToDo, IsLoggingIn, IsNewWord, KeepsLogin, KeptApart}
 use Rattle.vcpu_run.specs.PlainTalk.{Ask, Between, HearsOfClient, ServerStays, TalksPlainly, is_sent, word_of}
 use Rattle.vcpu_run.specs.Replay.{Replay}
+use Rattle.vcpu_run.specs.TagRows.{is_inward, row_at}
 use Rattle.vcpu_run.proofs.PlainAsking.{none_anew}
 use Rattle.vcpu_run.proofs.PlainDues.{IsDue, IsOver, IsPut, IsWritten, put_over}
 use Rattle.vcpu_run.proofs.PlainEndings.{end_at, has_pending, kept_below, talks_end}
@@ -180,6 +181,7 @@ put_pauses granted line now at b server answer starts stays is = by starts.start
       bytes = is.wrote.bytes;
       pages = no_pages;
       table = no_pages;
+      start = 0;
     }
 
     talks : TalksPlainly granted (end_at at b server) (word_of ask ∷ [])
@@ -202,12 +204,16 @@ put_pauses granted line now at b server answer starts stays is = by starts.start
     more : length b.client.rows ≡ length at.client.rows + 1
     more = over.rows ∙ ap (λ (list : List Row). length list + 1) since.rows
 
+    login_kept : is_inward (row_at b.client.rows (next_tag c.client)) ≡ false
+    login_kept = over.login_row
+
     anew : AsksAnew (length at.client.rows) b.client (word_of ask ∷ [])
     anew = record {
       more = omega (arith, more);
       asked = All-cons (IsNewWord (length at.client.rows) (length b.client.rows)) (word_of ask) []
           (omega (arith, ap (λ (list : List Row). length list) since.rows), omega (arith, over.rows))
           (All-nil (IsNewWord (length at.client.rows) (length b.client.rows)));
+      logins = All-cons (KeepsLogin b.client.rows) (word_of ask) [] (λ is. login_kept) (All-nil (KeepsLogin b.client.rows));
     }
 
     by : MayBegin granted now at ⊎ HasSentLogin granted now at → GoesOn granted now (length at.client.rows) (end_at at b server)

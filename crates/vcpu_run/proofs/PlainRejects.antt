@@ -13,7 +13,7 @@ use Rattle.vscsi_client.specs.State.{ClientState}
 use Rattle.vscsi_client.specs.declared.outgoing.Outgoing.{Outgoing}
 use Rattle.vscsi_client.specs.declared.stage.Stage.{Stage}
 use Rattle.vscsi_client.specs.declared.stage.Stage.TheVariants.{Idle, Sent, Written}
-use Rattle.vcpu_run.specs.PlainTalk.{AreApart, CountsAsked, AreInOrder, ArePending, Ask, AskedParts, Between, DataLies, HaveAnswers, IsAsk, IsTalking, KeepsSlots, SaysOfLogin, TagsRise, all_asked, awaited, grants_one, has_login, is_granted, is_login, is_logout, is_sent, login_name, name_of, names_of}
+use Rattle.vcpu_run.specs.PlainTalk.{AreApart, CountsAsked, AreInOrder, ArePending, Ask, AskedParts, Between, DataLies, HaveAnswers, IsAsk, IsTalking, KeepsSlots, SaysOfLogin, TagsRise, all_asked, awaited, grants_one, has_login, is_granted, is_login, is_logout, is_sent, login_name, name_of, names_of, StartsAt}
 use Rattle.vcpu_run.proofs.PlainAsks.{all_parts, names_push}
 use Rattle.vcpu_run.proofs.PlainEnds.{IsAmong, IsLast, apart_front_all, has_login_mid, last_is, order_front, rise_front}
 use Rattle.vcpu_run.proofs.PlainLists.{answers_plain, granted_push, login_no_logout}
@@ -89,6 +89,7 @@ rejected_talk granted at at' asked answers kept entry come rejection talk is log
   within = subst (λ (list : List Outgoing). length list ≤ 200) (sym ends.outgoing) talk.within;
   counts = subst (λ (u : Unit). CountsAsked u []) (sym ends.unit) (subst (CountsAsked at.unit) last.pending talk.counts);
   tables = All-nil (DataLies at'.window);
+  starts = All-nil (StartsAt at'.client.rows);
   spared = tt;
   login = record {
     credits = subst (λ (known : Option ℕ). (known ≡ None) ⊎ (known ≡ Some (min granted 200))) (sym ends.granted) talk.login.credits;

@@ -1,9 +1,10 @@
--- A plain client that frees its queue: its server unit is to hear that it is gone.
+-- A plain client that frees its queue, or whose partition fails: its server unit is to hear that it is gone.
 use Rattle.std.proofs.Common.{◌≡◌, ◌∙◌, ◌⊎◌, inl, inr, ℕ, ◌+◌, ◌≤◌, ◌++◌, All, true, false, true≢false, List, [], ◌∷◌, Option, None, length, length-append, refl, sym, ap, subst, arith}
 use Rattle.std.proofs.lemmas.List.Elements.{All-cons, All-head, All-nil, All-tail}
-use Rattle.vio_num.specs.Entry.{partner_freed}
+use Rattle.vio_num.specs.declared.entry.Entry.{Entry}
 use Rattle.crq_session.specs.Answered.{Frees, Keeps, Loses, Puts}
 use Rattle.crq_session.specs.EndState.{EndState, OnlyFrees, OnlyReserves}
+use Rattle.block_server.specs.Closings.{is_event}
 use Rattle.block_server.specs.Talk.Word.{gone}
 use Rattle.block_server.specs.declared.request.Request.{Request}
 use Rattle.block_server.specs.declared.unit.Unit.{Unit}
@@ -45,28 +46,28 @@ stale_of granted at (inr (inr (asked, answers, talk))) = record {
 }
 
 -- the event that tells of it was put
-event_put : (granted : ℕ) (at at' : Between) (room : EndState) → IsCalm granted at [] → OnlyReserves at.own room → ServerStays at at' → Frees false room partner_freed at'.own
-    → Puts false room partner_freed at'.own × (at'.own.kept ≡ None)
-event_put granted at at' room calm ready stays frees = by frees.tells
+event_put : (granted : ℕ) (at at' : Between) (room : EndState) (event : Entry) → IsCalm granted at [] → OnlyReserves at.own room → ServerStays at at' → Frees false room event at'.own
+    → Puts false room event at'.own × (at'.own.kept ≡ None)
+event_put granted at at' room event calm ready stays frees = by frees.tells
   where
-    by : (Puts false room partner_freed at'.own × (at'.own.kept ≡ None))
-        ⊎ (Keeps false room partner_freed at'.own ⊎ (Loses false room at'.own × (at'.own.kept ≡ None)))
-        → Puts false room partner_freed at'.own × (at'.own.kept ≡ None)
+    by : (Puts false room event at'.own × (at'.own.kept ≡ None))
+        ⊎ (Keeps false room event at'.own ⊎ (Loses false room at'.own × (at'.own.kept ≡ None)))
+        → Puts false room event at'.own × (at'.own.kept ≡ None)
     by (inl puts) = puts
     by (inr (inl keeps)) = absurd (not_full granted at at' room keeps.number keeps.held calm ready.sent ready.place stays keeps.full)
     by (inr (inr loses)) = absurd (not_closed granted at room at'.own calm ready.place loses.0.meets)
 
 -- Behind that the client is away.
-pub freed_plainly : (granted : ℕ) (at at' : Between) (room : EndState) → TalksPlainly granted at [] → OnlyReserves at.own room → Frees false room partner_freed at'.own
+pub freed_plainly : (granted : ℕ) (at at' : Between) (room : EndState) (event : Entry) → is_event event ≡ true → TalksPlainly granted at [] → OnlyReserves at.own room → Frees false room event at'.own
     → OnlyFrees false room at'.own → at'.client ≡ unlinked at.client → at'.window ≡ at.window → ServerStays at at' → TalksPlainly granted at' (gone ∷ [])
-freed_plainly granted at at' room talks ready frees rest client window stays = record {
-  calm = calm_asks granted at at' partner_freed gone talks.calm
-      (entry_put at at' room partner_freed talks.calm.ends talks.calm.registered ready.sent event.0 (rest.place ∙ ready.place) stays
-      (subst IsOwnWindow (sym window) talks.calm.usable)) refl;
+freed_plainly granted at at' room event tells talks ready frees rest client window stays = record {
+  calm = calm_asks granted at at' event gone talks.calm
+      (entry_put at at' room event talks.calm.ends talks.calm.registered ready.sent put.0 (rest.place ∙ ready.place) stays
+      (subst IsOwnWindow (sym window) talks.calm.usable)) tells;
   phase = inl (record {
     registered = frees.freed;
     handshake = ap (λ (s : ClientState). s.handshake) client;
-    kept = event.1;
+    kept = put.1;
     due = ap (λ (s : ClientState). s.due) client;
     stale = subst (λ (u : Unit). AreStale u.pending.items) (sym stays.unit) (stale_of granted at talks.phase);
     heard = inl refl;
@@ -74,5 +75,5 @@ freed_plainly granted at at' room talks ready frees rest client window stays = r
   tabled = ap (λ (s : ClientState). s.tabled) client ∙ talks.tabled;
 }
   where
-    event : Puts false room partner_freed at'.own × (at'.own.kept ≡ None)
-    event = event_put granted at at' room talks.calm ready stays frees
+    put : Puts false room event at'.own × (at'.own.kept ≡ None)
+    put = event_put granted at at' room event talks.calm ready stays frees

@@ -1,5 +1,5 @@
 -- A line of a plain client that resets: it frees the queue, and is a login then.
-use Rattle.std.proofs.Common.{◌≡◌, ◌≢◌, ◌∙◌, inl, inr, ℕ, ◌≤◌, false, List, [], ◌∷◌, Result, Ok, Err, arith, length, refl, sym, ap, ap₂, subst}
+use Rattle.std.proofs.Common.{◌≡◌, ◌≢◌, ◌∙◌, inl, inr, ℕ, ◌≤◌, ◌&&◌, not, is_some, false, List, [], ◌∷◌, Result, Ok, Err, IfOk, arith, length, refl, sym, ap, ap₂, subst}
 use Rattle.std.specs.Prelude.{⊤}
 use Rattle.std.proofs.lemmas.List.Elements.{All-cons, All-nil}
 use Rattle.vio_num.specs.Entry.{partner_freed}
@@ -18,12 +18,13 @@ use Rattle.unit_region.specs.declared.step.Step.TheVariants as steps
 use Rattle.vscsi_client.specs.State.{ClientState, next_tag}
 use Rattle.vscsi_client.specs.Turned.{unlinked}
 use Rattle.vcpu_run.specs.EventsPut.{times_freed}
-use Rattle.vcpu_run.specs.PlainSteps.{FollowsReplay, HasCome, IsAsReplayed, IsNewWord, IsLoginReplayed, LogsInPlainly, MayLogIn, Own, StepsOn, StepsPlainly, beside, own_by}
-use Rattle.vcpu_run.specs.PlainTalk.{AreEnds, Between, ServerStays, TalksPlainly, TookNoMore, awaited}
+use Rattle.vcpu_run.specs.PlainSteps.{FollowsReplay, HasCome, IsAsReplayed, IsNewWord, IsLoginReplayed, LogsInPlainly, MayLogIn, Own, StepsOn, StepsPlainly, beside, own_by, KeepsLogin}
+use Rattle.vcpu_run.specs.PlainTalk.{AreEnds, Between, ServerStays, TalksPlainly, TookNoMore, awaited, owes}
 use Rattle.vcpu_run.specs.Replay.{Replay, forgotten}
 use Rattle.vcpu_run.specs.declared.script.Progress.{Progress}
 use Rattle.vcpu_run.specs.declared.script.Progress.TheVariants as progress
 use Rattle.vcpu_run.proofs.PlainData.{data_kept}
+use Rattle.vcpu_run.proofs.PlainOwed.{logs_told, one_if, owes_none}
 use Rattle.vcpu_run.proofs.PlainReset.{freed_plainly}
 use Rattle.vcpu_run.proofs.PlainSlots.{keeps_same}
 use Rattle.vcpu_run.proofs.PlainStill.{all_true, plainly_still}
@@ -32,14 +33,16 @@ use Rattle.vcpu_run.proofs.PlainTurns.{come_same}
 -- the queue was freed
 pub resets_on : (granted : ℕ) (now : Replay) (at at' : Between) (room : EndState) (did : Moved) → TalksPlainly granted at [] → FollowsReplay granted now at → OnlyReserves at.own room
     → Frees false room partner_freed at'.own → OnlyFrees false room at'.own → at'.client ≡ unlinked at.client → at'.window ≡ at.window → ServerStays at at'
-    → StepsOn granted verbs.Reset progress.Freed now (length at.client.rows) at' (steps.Waits did)
+    → StepsOn granted verbs.Reset progress.Freed now (length at.client.rows) (owes at []) at' (steps.Waits did)
 resets_on granted now at at' room did talks follows ready frees rest client window stays = record {
   words = gone ∷ [];
-  talks = freed_plainly granted at at' room talks ready frees rest client window stays;
+  talks = freed_plainly granted at at' room partner_freed refl talks ready frees rest client window stays;
   anew = record {
     more = omega (arith, ap (λ (s : ClientState). length s.rows) client);
     asked = All-cons (IsNewWord (length at.client.rows) (length at'.client.rows)) gone [] tt (All-nil (IsNewWord (length at.client.rows) (length at'.client.rows)));
+    logins = All-cons (KeepsLogin at'.client.rows) gone [] tt (All-nil (KeepsLogin at'.client.rows));
   };
+  told = omega (arith, owes_none at' (gone ∷ []) (inl frees.freed));
   replayed = (inl (record { registered = frees.freed; tag = ap next_tag client ∙ follows.tag }), inl (λ none. cc (none)));
 }
 
@@ -48,7 +51,7 @@ pub login_steps : (p p' : Progress) (old new : Own) (result : Result Step NoMemo
 login_steps p p' old new (Err memory) logs = λ plain granted unit server server' now spares stays talks come. tt
 login_steps p p' old new (Ok step) logs = λ plain granted unit server server' now spares stays talks come.
     let on = logs granted unit server server' now stays talks (inl come) in
-    record { words = on.0; talks = on.1; anew = on.2; replayed = so granted now (beside unit server' new) on.0 step on.3 }
+    record { words = on.0; talks = on.1; anew = on.2; told = logs_told granted now (beside unit server old) (beside unit server' new) on.0 step refl talks (inl come) on.1 on.3; replayed = so granted now (beside unit server' new) on.0 step on.3 }
   where
     so : (granted : ℕ) (now : Replay) (at : Between) (words : List Word) (step : Step) → IsLoginReplayed granted now at words step → IsAsReplayed granted verbs.Login p' now at words step
     so granted now at words (steps.Ends outcome) replayed = replayed
@@ -58,8 +61,9 @@ login_steps p p' old new (Ok step) logs = λ plain granted unit server server' n
 pub renews_steps : (old new : Own) (result : Result Step NoMemory) → LogsInPlainly old new result → StepsPlainly verbs.Reset progress.Freed progress.Freed old new result
 renews_steps old new (Err memory) logs = λ plain granted unit server server' now spares stays talks come. tt
 renews_steps old new (Ok step) logs = λ plain granted unit server server' now spares stays talks come.
-    let on = logs granted unit server server' (forgotten now) stays talks (may granted now (beside unit server old) come) in
-    record { words = on.0; talks = on.1; anew = on.2; replayed = so granted now (beside unit server' new) on.0 step on.3 }
+    let starts = may granted now (beside unit server old) come in
+    let on = logs granted unit server server' (forgotten now) stays talks starts in
+    record { words = on.0; talks = on.1; anew = on.2; told = logs_told granted (forgotten now) (beside unit server old) (beside unit server' new) on.0 step refl talks starts on.1 on.3; replayed = so granted now (beside unit server' new) on.0 step on.3 }
   where
     may : (granted : ℕ) (now : Replay) (at : Between) → HasCome granted verbs.Reset progress.Freed now at → MayLogIn granted (forgotten now) at
     may granted now at (inl freed) = inr (record { registered = freed.registered; tag = freed.tag }, refl, refl)
@@ -140,7 +144,9 @@ room_talks granted unit server old room ready talks =
 pub resets_unregistered : (p : Progress) (old new : Own) (room : EndState) (result : Result Step NoMemory) → p ≢ progress.Freed → old.end.registered ≡ false
     → OnlyReserves old.end room → LogsInPlainly (own_by old.client room old.window) new result → StepsPlainly verbs.Reset p progress.Freed old new result
 resets_unregistered p old new room result fresh off ready logs = λ plain granted unit server server' now spares stays talks come.
-    renews_steps (own_by old.client room old.window) new result logs plain granted unit server server' now spares
+    subst (λ n. IfOk result (StepsOn granted verbs.Reset progress.Freed now (length old.client.rows) n (beside unit server' new)))
+    (ap (λ b. one_if (b && (not (is_some old.client.granted) && (unit.logins.taking && not false)))) ready.registered)
+    (renews_steps (own_by old.client room old.window) new result logs plain granted unit server server' now spares
     (record {
       unit = stays.unit;
       session = stays.session;
@@ -150,4 +156,4 @@ resets_unregistered p old new room result fresh off ready logs = λ plain grante
       slots = stays.slots;
       ends = stays.ends;
     }) (room_talks granted unit server old room ready talks)
-    (inl (record { registered = ready.registered ∙ off; tag = (fresh_follows granted p now (beside unit server old) fresh come).tag }))
+    (inl (record { registered = ready.registered ∙ off; tag = (fresh_follows granted p now (beside unit server old) fresh come).tag })))

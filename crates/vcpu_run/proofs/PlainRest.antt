@@ -1,10 +1,11 @@
 -- The answers that a plain client takes behind its last line, one after the other.
-use Rattle.std.proofs.Common.{◌≡◌, ◌∙◌, ℕ, [], Result, Err, refl, subst, sym}
+use Rattle.std.proofs.Common.{◌≡◌, ◌∙◌, inl, inr, ℕ, [], Result, Err, refl, subst, sym}
 use Rattle.vio_num.specs.declared.hypervisor.Moved.{Moved}
 use Rattle.vio_num.specs.declared.memory.NoMemory.{NoMemory}
 use Rattle.crq_session.specs.EndState.{EndState}
 use Rattle.block_server.specs.declared.unit.Unit.{Unit}
-use Rattle.vcpu_run.specs.PlainSteps.{FollowsReplay, LeavesTook, Own, RestsPlainly, TakesEntries, TakesPlainly, beside}
+use Rattle.vscsi_client.specs.State.{next_tag}
+use Rattle.vcpu_run.specs.PlainSteps.{FollowsReplay, LeavesTook, Own, RestsAs, RestsPlainly, TakesEntries, TakesPlainly, beside}
 use Rattle.vcpu_run.specs.PlainTalk.{Between, ServerStays, TalksPlainly}
 use Rattle.vcpu_run.specs.Replay.{Replay, answered}
 use Rattle.vcpu_run.specs.declared.taking.Took.{Took}
@@ -17,8 +18,12 @@ use Rattle.vcpu_run.proofs.PlainMiddle.{KeptThere, kept_there, seeing}
 pub record RestsSoFar (old new : Own) : Type 0 where
   pub entries : TakesEntries old.end new.end
   pub leaves : (granted : ℕ) (unit : Unit) (server server' : EndState) (now : Replay) → ServerStays (beside unit server old) (beside unit server' new)
-      → TalksPlainly granted (beside unit server old) [] → FollowsReplay granted now (beside unit server old)
-      → TalksPlainly granted (beside unit server' new) [] × (later : Replay) × (later.tag ≡ now.tag) × FollowsReplay granted later (beside unit server' new)
+      → TalksPlainly granted (beside unit server old) [] → RestsAs granted now (beside unit server old)
+      → TalksPlainly granted (beside unit server' new) [] × (later : Replay) × (next_tag new.client ≡ next_tag old.client) × RestsAs granted later (beside unit server' new)
+
+rests_still : (granted : ℕ) (now : Replay) (unit : Unit) (server server' : EndState) (own : Own) → RestsAs granted now (beside unit server own) → RestsAs granted now (beside unit server' own)
+rests_still granted now unit server server' own (inl follows) = inl (follows_still granted now (beside unit server own) (beside unit server' own) follows refl refl)
+rests_still granted now unit server server' own (inr failed) = inr (record { registered = failed.registered; kept = failed.kept })
 
 -- nothing
 pub rests_none : (old : Own) → RestsSoFar old old
@@ -28,7 +33,7 @@ rests_none old = record {
     stood_still (beside unit server old) (beside unit server' old) granted talks stays refl refl refl,
     now,
     refl,
-    follows_still granted now (beside unit server old) (beside unit server' old) follows refl refl,
+    rests_still granted now unit server server' old follows,
   );
 }
 
@@ -44,21 +49,27 @@ pub rests_more : (old middle new : Own) (took : Took) → RestsSoFar old middle 
 rests_more old middle new took far takes = record { entries = entries_on old.end middle.end new.end far.entries takes.entries; leaves = leaves }
   where
     leaves : (granted : ℕ) (unit : Unit) (server server' : EndState) (now : Replay) → ServerStays (beside unit server old) (beside unit server' new)
-        → TalksPlainly granted (beside unit server old) [] → FollowsReplay granted now (beside unit server old)
-        → TalksPlainly granted (beside unit server' new) [] × (later : Replay) × (later.tag ≡ now.tag) × FollowsReplay granted later (beside unit server' new)
-    leaves granted unit server server' now stays talks follows = (one.0, later.0, later.1 ∙ so_far.2, later.2)
+        → TalksPlainly granted (beside unit server old) [] → RestsAs granted now (beside unit server old)
+        → TalksPlainly granted (beside unit server' new) [] × (later : Replay) × (next_tag new.client ≡ next_tag old.client) × RestsAs granted later (beside unit server' new)
+    leaves granted unit server server' now stays talks follows = on so_far.3
       where
         kept : KeptThere unit server server' old middle new
         kept = kept_there unit server server' old middle new takes.entries stays
 
-        so_far : TalksPlainly granted (beside unit (seeing server' middle.end) middle) [] × (later : Replay) × (later.tag ≡ now.tag) × FollowsReplay granted later (beside unit (seeing server' middle.end) middle)
+        mid : Between
+        mid = beside unit (seeing server' middle.end) middle
+
+        so_far : TalksPlainly granted mid [] × (later : Replay) × (next_tag middle.client ≡ next_tag old.client) × RestsAs granted later mid
         so_far = far.leaves granted unit server (seeing server' middle.end) now kept.before talks follows
 
-        one : TalksPlainly granted (beside unit server' new) [] × LeavesTook granted so_far.1 took (beside unit server' new)
-        one = takes.leaves granted unit (seeing server' middle.end) server' so_far.1 kept.behind so_far.0 so_far.3
-
-        later : (later : Replay) × (later.tag ≡ so_far.1.tag) × FollowsReplay granted later (beside unit server' new)
-        later = later_on granted so_far.1 took (beside unit server' new) one.1
+        on : RestsAs granted so_far.1 mid
+            → TalksPlainly granted (beside unit server' new) [] × (later : Replay) × (next_tag new.client ≡ next_tag old.client) × RestsAs granted later (beside unit server' new)
+        on (inl before) =
+            let one = takes.leaves granted unit (seeing server' middle.end) server' so_far.1 kept.behind so_far.0 before in
+            let later = later_on granted so_far.1 took (beside unit server' new) one.1 in
+            (one.0, later.0, later.2.tag ∙ later.1 ∙ sym before.tag ∙ so_far.2, inl later.2)
+        on (inr failed) =
+            let one = takes.failed granted unit (seeing server' middle.end) server' kept.behind so_far.0 failed in (one.0, so_far.1, one.2 ∙ so_far.2, inr one.1)
 
 -- nor does a call tell anything that ran out of memory
 pub rests_err : (old new : Own) (result : Result Moved NoMemory) (memory : NoMemory) → result ≡ Err memory → RestsPlainly old new result

@@ -5,18 +5,22 @@ use Rattle.std.proofs.lemmas.Option.{slice_get_within}
 use Rattle.boot_text.specs.declared.plan.Line.{Line}
 use Rattle.crq_session.specs.Answered.{taken_now}
 use Rattle.crq_session.specs.PlainState.{end_of}
+use Rattle.tce_window.specs.PlainPort.{known_of}
 use Rattle.block_server.specs.Talk.{HearsAll, Talk, Word, talk_of}
 use Rattle.block_server.specs.Talk.Word.{asks, begins, gone}
 use Rattle.block_server.specs.declared.unit.Unit.{Unit}
 use Rattle.lan_script.specs.declared.seat.PortSeat.{PortSeat}
-use Rattle.vcpu_run.specs.Agreed.{SameElse}
+use Rattle.vcpu_run.specs.Agreed.{OnDrivers, SameElse}
+use Rattle.vcpu_run.specs.NotedOn.{KeepsNoted}
+use Rattle.vcpu_run.specs.Pairs.{AreDriven, Drives}
 use Rattle.vscsi_client.specs.State.{ClientState}
 use Rattle.vcpu_run.specs.Machines.{AreScripts, server_id}
+use Rattle.vcpu_run.specs.PlainBorne.{rows_by}
 use Rattle.vcpu_run.specs.PlainClients.{IsPlainClient}
 use Rattle.vcpu_run.specs.PlainPairs.{IdlesPlainlyAt, IsIdleUnit, IsPlainAt, IsPlainPair, IsReadyAt, IsReadyPair, ServerBooks, ServesPlainlyAt, between_of}
 use Rattle.vcpu_run.specs.PlainRuns.{ArePlain, ArePlainTo, ArePlainlyQuietTo, AtPlainSeats, AwaitsNoneAt, ComesBehind, NoneAwait, RestsInRound, StandsInRound}
 use Rattle.vcpu_run.specs.PlainRows.{TagsKept, tags_by}
-use Rattle.vcpu_run.specs.PlainScripts.{IsPlainSeat, NoneAwaits, PairTalks, QuietsPlainly, StandsPlainly, StandsPlainlyAt, TurnedPlainly, TurnsPlainly, rows_in}
+use Rattle.vcpu_run.specs.PlainScripts.{EndsPlainly, IsPlainSeat, NoneAwaits, PairTalks, QuietsPlainly, StandsPlainly, StandsPlainlyAt, TurnedPlainly, TurnsPlainly, rows_in, told_in}
 use Rattle.vcpu_run.specs.PlainSteps.{AsksAnew, IsNewWord}
 use Rattle.vcpu_run.specs.PlainTalk.{TalksPlainly}
 use Rattle.vcpu_run.specs.Scripts.{OnlyRuns, are_servers}
@@ -27,8 +31,11 @@ use Rattle.vcpu_run.specs.declared.script.Script.{Script}
 use Rattle.vcpu_run.specs.declared.unit_seat.Seat.{Seat}
 use Rattle.vcpu_run.proofs.Driving.{get_set_other, get_set_same, same_or, some_is}
 use Rattle.vcpu_run.proofs.Listed.{each_set, held, held_is, is_held}
+use Rattle.vcpu_run.proofs.PlainBorne.{borne_turned}
+use Rattle.vcpu_run.proofs.PlainGiven.{answers_on}
 use Rattle.vcpu_run.proofs.PlainReady.{words_few}
 use Rattle.vcpu_run.proofs.PlainRounds.{plain_ready}
+use Rattle.vcpu_run.proofs.PlainSeated.{owes_there}
 use Rattle.vcpu_run.proofs.PlainTags.{tags_asked, tags_none, tags_on}
 use Rattle.vcpu_run.proofs.PlainTurning.{clients_stand}
 use Rattle.vcpu_run.proofs.RoundsTold.{SameSeats, others_same}
@@ -64,12 +71,13 @@ pub served_plainly : (granted home n : ℕ) (books books' : ServerBooks) (old ne
     → ArePlainTo granted home n books old scripts → ArePlainTo granted home (n + 1) books' new scripts
 served_plainly granted home n books books' old new scripts serves same plain i u k script found seat =
     let is = plain i u k script found seat in
-    let now : IsPlainAt granted home books' k [] new = serves k granted is.ready in
-    let at = held (IsPlainPair granted home books' k []) (slice_get new k) now in
+    let told : ℕ = told_in u script in
+    let now : IsPlainAt granted told home books' k [] new = serves k granted told is.ready in
+    let at = held (IsPlainPair granted told home books' k []) (slice_get new k) now in
     record {
       behind = is.behind;
       others = is.others;
-      ready = plain_ready granted home books' k [] new now;
+      ready = plain_ready granted told home books' k [] new now;
       served = λ _ _. now;
       stands = clients_stand granted u k old new script (λ none. absurd (no_pair (slice_get new k) none at.1)) same is.stands;
     }
@@ -81,7 +89,7 @@ pub idled_plainly : (granted home n : ℕ) (books books' : ServerBooks) (old : L
     → are_servers here.seats.items ≡ true → ((k : ℕ) → IdlesPlainlyAt home books books' old k) → ArePlainTo granted home n books old scripts → ArePlainlyQuietTo home n books scripts
     → ArePlainlyQuietTo home (n + 1) books' scripts
 idled_plainly granted home n books books' old scripts here there of idles plain quiet i u k script found seat = record {
-  idle = λ _. idles k granted (plain i u k script found seat).ready;
+  idle = λ _. idles k granted (told_in u script) (plain i u k script found seat).ready;
   none = λ less. by less (same_or i n);
 }
   where
@@ -94,12 +102,12 @@ idled_plainly granted home n books books' old scripts here there of idles plain 
 -- ---- a script has its turn
 
 -- what of a pair is so where nothing is to come
-talks_at : (granted home : ℕ) (books : ServerBooks) (k : ℕ) (words : List Word) (pairs : List Pair) → IsPlainAt granted home books k words pairs
-    → (pair : Pair) × (slice_get pairs k ≡ Some pair) × IsPlainPair granted home books k words pair
-talks_at granted home books k words pairs = held (IsPlainPair granted home books k words) (slice_get pairs k)
+talks_at : (granted told home : ℕ) (books : ServerBooks) (k : ℕ) (words : List Word) (pairs : List Pair) → IsPlainAt granted told home books k words pairs
+    → (pair : Pair) × (slice_get pairs k ≡ Some pair) × IsPlainPair granted told home books k words pair
+talks_at granted told home books k words pairs = held (IsPlainPair granted told home books k words) (slice_get pairs k)
 
-pair_talks : (granted home : ℕ) (books : ServerBooks) (k : ℕ) (words : List Word) (pair : Pair) → (is : IsPlainPair granted home books k words pair) → PairTalks granted is.unit words pair
-pair_talks granted home books k words pair is =
+pair_talks : (granted told home : ℕ) (books : ServerBooks) (k : ℕ) (words : List Word) (pair : Pair) → (is : IsPlainPair granted told home books k words pair) → PairTalks granted is.unit words pair
+pair_talks granted told home books k words pair is =
     is_held (λ (driver : Driver). TalksPlainly granted (between_of is.unit driver pair) words) pair.driver is.driver is.driver_is is.talks
 
 -- the others' pairs and lines are as they were
@@ -109,8 +117,8 @@ else_plainly : (granted home n : ℕ) (books : ServerBooks) (old new : List Pair
 else_plainly granted home n books old new scripts script later i u k other found rest plain same apart is = record {
   behind = behind_set home i n scripts script later found rest is.behind;
   others = is.others;
-  ready = subst (λ (o : Option Pair). IsSomeAnd o (IsReadyPair granted home books k)) (sym same) is.ready;
-  served = λ less upto. subst (λ (o : Option Pair). IsSomeAnd o (IsPlainPair granted home books k [])) (sym same) (is.served (before less) (omega (arith, upto)));
+  ready = subst (λ (o : Option Pair). IsSomeAnd o (IsReadyPair granted (told_in u other) home books k)) (sym same) is.ready;
+  served = λ less upto. subst (λ (o : Option Pair). IsSomeAnd o (IsPlainPair granted (told_in u other) home books k [])) (sym same) (is.served (before less) (omega (arith, upto)));
   stands = subst (λ (o : Option Pair). IsSomeAnd o (StandsPlainly granted u other)) (sym same) is.stands;
 }
   where
@@ -142,16 +150,22 @@ tags_heard tags last n s (asks address bytes iu ∷ []) talk talk' few anew kept
     (tags_asked tags last (length s.rows) talk.pending one.request anew.more (omega (arith, one.is.tag_is, new.0)) (omega (arith, one.is.tag_is, new.1)) kept)
 tags_heard tags last n s (word ∷ next ∷ words) talk talk' few anew kept heard = absurd (omega (arith, few))
 
+drivers_at : (o p : Option Driver) (a b : Driver) → o ≡ Some a → p ≡ Some b → (P : Driver → Driver → Type 0) → OnDrivers o p P → P a b
+drivers_at o p a b was is P on = subst (λ (q : Option Driver). OnDrivers (Some a) q P) is (subst (λ (q : Option Driver). OnDrivers q p P) was on)
+
 -- the pair is one before its server unit's turn
-ready_again : (granted home : ℕ) (books : ServerBooks) (k u : ℕ) (old new : List Pair) (script : Script) (pair : Pair) → slice_get old k ≡ Some pair → (is : IsPlainPair granted home books k [] pair)
-    → TurnedPlainly granted u k is.unit old new script → IsReadyAt granted home books k new
-ready_again granted home books k u old new script pair there is turned =
+ready_again : (granted told home : ℕ) (books : ServerBooks) (k u : ℕ) (old new : List Pair) (script : Script) (pair : Pair) → AreDriven old new → slice_get old k ≡ Some pair
+    → (is : IsPlainPair granted told home books k [] pair) → TurnedPlainly granted told u k is.unit old new script → IsReadyAt granted (told_in u script) home books k new
+ready_again granted told home books k u old new script pair driven there is turned =
     let after = held (PairTalks granted is.unit turned.words) (slice_get new k) turned.talks in
     let driver = held (λ (d : Driver). TalksPlainly granted (between_of is.unit d after.0) turned.words) after.0.driver after.2 in
     let anew : AsksAnew (length is.driver.client.rows) driver.0.client turned.words =
     subst (λ (o : Option Driver). AsksAnew (rows_in o) driver.0.client turned.words) is.driver_is
     (held_is (λ (d : Driver). AsksAnew (rows_in pair.driver) d.client turned.words) after.0.driver driver.0 driver.1 (turned.anew pair after.0 there after.1)) in
-    is_held (IsReadyPair granted home books k) (slice_get new k) after.0 after.1 (inl (
+    let drives : Drives pair after.0 = held_is (Drives pair) (slice_get new k) after.0 after.1 (driven.each k pair there) in
+    let keeps : KeepsNoted is.driver driver.0 =
+    drivers_at pair.driver after.0.driver is.driver driver.0 is.driver_is driver.1 KeepsNoted (turned.keeps k pair after.0 there after.1) in
+    is_held (IsReadyPair granted (told_in u script) home books k) (slice_get new k) after.0 after.1 (inl (
       turned.words,
       record {
         unit = is.unit;
@@ -160,17 +174,32 @@ ready_again granted home books k u old new script pair there is turned =
         driver = driver.0;
         driver_is = driver.1;
         talks = driver.2;
+        owed = omega (
+          arith,
+          turned.owed pair after.0 there after.1,
+          owes_there is.unit turned.words after.0 driver.0 driver.1,
+          owes_there is.unit [] pair is.driver is.driver_is,
+          is.owed,
+        );
         lines = is.lines;
         tags = λ talk heard.
             tags_heard (tags_by (server_id home k) books.rows) (length is.driver.client.rows) (length (taken_now (end_of [] after.0.link true))) driver.0.client turned.words (talk_of is.unit) talk
             (words_few granted (between_of is.unit driver.0 after.0) turned.words driver.2.phase) anew (is.tags (talk_of is.unit) refl) heard;
+        answers = λ talk heard.
+            answers_on (tags_by (server_id home k) books.rows) (length is.driver.client.rows) (length (taken_now (end_of [] after.0.link true))) is.driver.client driver.0.client
+            is.driver.answers.items driver.0.answers.items (end_of [] pair.link true).sent (end_of [] after.0.link true).sent turned.words (talk_of is.unit) talk
+            (words_few granted (between_of is.unit driver.0 after.0) turned.words driver.2.phase) anew keeps.keeps drives.got (is.tags (talk_of is.unit) refl)
+            (is.answers (talk_of is.unit) refl) heard;
+        apart = λ same. is.apart (sym drives.unit ∙ same);
+        borne = borne_turned (rows_by (server_id home k) books.rows) (server_id home k) pair.window.unit is.driver.client driver.0.client is.driver.answers.items driver.0.answers.items
+            (known_of pair.window).strokes (known_of after.0.window).strokes is.apart keeps.keeps (is.answers (talk_of is.unit) refl).asked drives.laid is.borne;
       },
     ))
 
 pub turned_plainly : (granted home n : ℕ) (books : ServerBooks) (old new : List Pair) (ports : List PortSeat) (scripts : List Script) (script later : Script) → slice_get scripts n ≡ Some script
-    → AreScripts old ports scripts → SameElse script.seats.items old new → OnlyRuns script later → are_servers script.seats.items ≡ false → TurnsPlainly old new script later
+    → AreScripts old ports scripts → AreDriven old new → SameElse script.seats.items old new → OnlyRuns script later → are_servers script.seats.items ≡ false → TurnsPlainly old new script later
     → ArePlainTo granted home n books old scripts → ArePlainTo granted home (n + 1) books new (slice_set scripts n later)
-turned_plainly granted home n books old new ports scripts script later found are others rest plain turns is i u k now there seat =
+turned_plainly granted home n books old new ports scripts script later found are driven others rest plain turns is i u k now there seat =
     each_set (λ j (s : Script). IsPlainSeat s u k → StandsInRound granted home (n + 1) books new (slice_set scripts n later) j u k s) scripts n later
     (λ j s at apart sits.
     else_plainly granted home n books old new scripts script later j u k s found rest plain
@@ -180,12 +209,13 @@ turned_plainly granted home n books old new ports scripts script later found are
     own : IsPlainSeat script u k → StandsInRound granted home (n + 1) books new (slice_set scripts n later) n u k later
     own sits =
         let was = is n u k script found sits in
-        let at = talks_at granted home books k [] old (was.served was.behind.less (omega arith)) in
-        let turned = turns granted u k at.2.unit sits (is_held (PairTalks granted at.2.unit []) (slice_get old k) at.0 at.1 (pair_talks granted home books k [] at.0 at.2)) was.stands in
+        let told : ℕ = told_in u script in
+        let at = talks_at granted told home books k [] old (was.served was.behind.less (omega arith)) in
+        let turned = turns granted u k at.2.unit sits (is_held (PairTalks granted at.2.unit []) (slice_get old k) at.0 at.1 (pair_talks granted told home books k [] at.0 at.2)) was.stands in
         record {
           behind = behind_set home n n scripts script later found rest was.behind;
           others = ap (λ seats. are_servers seats.items) rest.seats ∙ was.others;
-          ready = ready_again granted home books k u old new later at.0 at.1 at.2 turned;
+          ready = ready_again granted told home books k u old new later at.0 driven at.1 at.2 turned;
           served = λ less upto. absurd (omega (arith, upto));
           stands = turned.stands;
         }
@@ -218,11 +248,12 @@ quieted_plainly granted home n books old new scripts script later found rest pla
     own : IsPlainSeat script u k → RestsInRound home (n + 1) books n u k later
     own sits =
         let was = is n u k script found sits in
-        let at = talks_at granted home books k [] old (was.served was.behind.less (omega arith)) in
+        let told : ℕ = told_in u script in
+        let at = talks_at granted told home books k [] old (was.served was.behind.less (omega arith)) in
         let idle : IsIdleUnit k books = (quiet n u k script found sits).idle was.behind.less in
         record {
           idle = λ _. idle;
-          none = λ _. quiets granted u k at.2.unit sits (is_held (PairTalks granted at.2.unit []) (slice_get old k) at.0 at.1 (pair_talks granted home books k [] at.0 at.2)) was.stands
+          none = λ _. quiets granted u k at.2.unit sits (is_held (PairTalks granted at.2.unit []) (slice_get old k) at.0 at.1 (pair_talks granted told home books k [] at.0 at.2)) was.stands
               (held_is (λ (unit : Unit). unit.pending.items ≡ []) (slice_get books.units k) at.2.unit at.2.there idle);
         }
 
@@ -244,7 +275,7 @@ round_quietly home n books scripts all quiet i u k script found seat = (quiet i 
 -- ---- a line that waited is ended
 
 pub ended_plainly : (granted home n : ℕ) (books : ServerBooks) (pairs : List Pair) (scripts : List Script) (script later : Script) → slice_get scripts n ≡ Some script → OnlyRuns script later
-    → ((u k : ℕ) → NoneAwaits u script → StandsPlainlyAt granted u k pairs script → StandsPlainlyAt granted u k pairs later) → ((u k : ℕ) → IsPlainSeat script u k → NoneAwaits u script)
+    → ((u k : ℕ) → EndsPlainly granted u k pairs script later) → ((u k : ℕ) → IsPlainSeat script u k → NoneAwaits u script)
     → ArePlain granted home books pairs scripts → ArePlain granted home books pairs (slice_set scripts n later)
 ended_plainly granted home n books pairs scripts script later found rest kept none is i u k now there seat =
     each_set (λ j (s : Script). IsPlainSeat s u k → StandsInRound granted home 0 books pairs (slice_set scripts n later) j u k s) scripts n later
@@ -255,12 +286,12 @@ ended_plainly granted home n books pairs scripts script later found rest kept no
       served = was.served;
       stands = was.stands;
     })
-    (λ sits. let own = seat_same script later u k rest sits in let was = is n u k script found own in record {
+    (λ sits. let own = seat_same script later u k rest sits in let was = is n u k script found own in let ends = kept u k (none u k own) was.stands in record {
       behind = behind_set home n n scripts script later found rest was.behind;
       others = ap (λ seats. are_servers seats.items) rest.seats ∙ was.others;
-      ready = was.ready;
-      served = was.served;
-      stands = kept u k (none u k own) was.stands;
+      ready = subst (λ told. IsReadyAt granted told home books k pairs) (sym ends.1) was.ready;
+      served = λ less upto. absurd (omega (arith, less));
+      stands = ends.0;
     }) i now there seat
 
 -- the script that is next has not been touched

@@ -18,10 +18,10 @@ use Rattle.unit_region.specs.declared.step.Step.TheVariants as steps
 use Rattle.vcpu_run.specs.Agreed.{OnDrivers}
 use Rattle.vcpu_run.specs.Pairs.{Drives}
 use Rattle.vcpu_run.specs.PlainPairs.{between_of}
-use Rattle.vcpu_run.specs.PlainScripts.{PairAsks, PairIs, PairPlainly, PairRestsPlainly, PairSteppedAs, PairTalks, rows_in}
+use Rattle.vcpu_run.specs.PlainScripts.{PairAsks, PairIs, PairPlainly, PairRestsPlainly, PairSteppedAs, PairTalks, owes_at, owes_to, rows_in}
 use Rattle.vcpu_run.specs.PlainSeated.{DriverPlainly, IsToldSince, own_in}
-use Rattle.vcpu_run.specs.PlainSteps.{AsksAnew, FollowsReplay, HasCome, IsAsReplayed, RestsPlainly, StepsPlainly, own_by}
-use Rattle.vcpu_run.specs.PlainTalk.{Between, ServerStays, TalksPlainly, TookNoMore}
+use Rattle.vcpu_run.specs.PlainSteps.{AsksAnew, FollowsReplay, HasCome, IsAsReplayed, RestsAs, RestsPlainly, StepsPlainly, granted_by, own_by}
+use Rattle.vcpu_run.specs.PlainTalk.{Between, ServerStays, TalksPlainly, TookNoMore, owes}
 use Rattle.vcpu_run.specs.Replay.{Replay, after_line}
 use Rattle.vcpu_run.specs.declared.driver.Driver.{Driver}
 use Rattle.vcpu_run.specs.declared.pair.Pair.{Pair}
@@ -30,7 +30,7 @@ use Rattle.vcpu_run.proofs.Driving.{some_is}
 use Rattle.vcpu_run.proofs.PlainPaired.{took_on}
 use Rattle.vcpu_run.proofs.PlainStill.{server_still}
 use Rattle.vcpu_run.proofs.PlainAsking.{none_anew}
-use Rattle.vcpu_run.proofs.PlainThrough.{come_through, follows_through, rests_through, steps_through}
+use Rattle.vcpu_run.proofs.PlainThrough.{come_through, ends_through, follows_through, rests_through, steps_through}
 
 -- ---- the driver of a pair
 
@@ -38,7 +38,7 @@ pub driver_of : (P : Driver → Type 0) (o : Option Driver) → IsSomeAnd o P �
 driver_of P (Some driver) is = (driver, refl, is)
 driver_of P None is = absurd is
 
-driver_behind : (P : Driver → Driver → Type 0) (o o' : Option Driver) (a : Driver) → o ≡ Some a → OnDrivers o o' P → (b : Driver) × (o' ≡ Some b) × P a b
+pub driver_behind : (P : Driver → Driver → Type 0) (o o' : Option Driver) (a : Driver) → o ≡ Some a → OnDrivers o o' P → (b : Driver) × (o' ≡ Some b) × P a b
 driver_behind P (Some d) (Some b) a e is = (b, refl, subst (λ (x : Driver). P x b) (some_is d a e) is)
 driver_behind P (Some d) None a e is = absurd is
 driver_behind P None o' a e is = absurd (cc (e))
@@ -131,6 +131,14 @@ step_told granted unit verb p now new step (steps.Waits did) went (inr (e, e')) 
     let is = subst (IsAsReplayed granted verb p now (between_of unit went.driver new) went.words) e went.replayed in
     (come_all granted unit verb p now new went.driver went.there is.0, is.1, λ none. quiet (ap steps.Waits none))
 
+-- what the client is owed
+pub owes_there : (unit : Unit) (words : List Word) (pair : Pair) (driver : Driver) → pair.driver ≡ Some driver → owes_at unit words pair ≡ owes (between_of unit driver pair) words
+owes_there unit words pair driver there = ap (λ (o : Option Driver). owes_to unit words o pair) there
+
+told_same : (step told : Step) → (told ≡ step) ⊎ ((step ≡ steps.Waits moves.Quiet) × (told ≡ steps.Waits moves.Moved)) → granted_by told ≡ granted_by step
+told_same step told (inl same) = ap granted_by same
+told_same step told (inr (waits, waits')) = ap granted_by waits' ∙ sym (ap granted_by waits)
+
 -- what the client asked
 asks_at : (words : List Word) (old new : Pair) (a b : Driver) → old.driver ≡ Some a → new.driver ≡ Some b → AsksAnew (length a.client.rows) b.client words
     → PairAsks (rows_in old.driver) words new
@@ -151,6 +159,7 @@ pair_plainly verb p p' before after old new step told drives first next own sinc
       words = on.words;
       talks = talks_at granted unit on.words new b there on.talks;
       anew = asks_at on.words old new a b was there on.anew;
+      told = omega (arith, on.told, told_same step told since.same, owes_there unit on.words new b there, owes_there unit [] old a was);
       stepped = step_told granted unit verb p' now new step told went since.same
           (λ quiet. none_put granted unit a b on.words old new drives own (subst (λ n. n ≤ length (side_of old.link true).queue.sent) next
           (subst (λ n. after ≤ n) first (since.quiet quiet))) talk on.talks);
@@ -171,6 +180,12 @@ driver_plainly f g x y lent old new a b verb p p' result was there same first ne
 
 -- ---- taking all the rest
 
+rests_all : (granted : ℕ) (unit : Unit) (now : Replay) (pair : Pair) (driver : Driver) → pair.driver ≡ Some driver → RestsAs granted now (between_of unit driver pair)
+    → PairIs (RestsAs granted now) pair
+rests_all granted unit now pair driver there is =
+    pair_is (RestsAs granted now) pair driver there
+    (λ other. ends_through [] granted unit other (end_of [] pair.link true) (end_of [] pair.link true) now (own_in driver pair) is)
+
 pub pair_rests : (f g : Bool) (x y : List GName) (lent : PlainLink) (old new : Pair) (a b : Driver) (result : Result Moved NoMemory) → old.driver ≡ Some a → new.driver ≡ Some b
     → lent ≡ old.link → f ≡ false → g ≡ false → Drives old new → TookNoMore (end_of [] new.link false)
     → RestsPlainly (own_by a.client (end_of x lent f) (known_of old.window)) (own_by b.client (end_of y new.link g) (known_of new.window)) result
@@ -184,10 +199,10 @@ pair_rests f g x y lent old new a b (Ok moved) was there same first next drives 
     (subst (λ (l : PlainLink). RestsPlainly (own_by a.client (end_of x l false) (known_of old.window)) (own_by b.client (end_of y new.link false) (known_of new.window)) (Ok moved)) same
     (subst (λ (d : Bool). RestsPlainly (own_by a.client (end_of x lent d) (known_of old.window)) (own_by b.client (end_of y new.link false) (known_of new.window)) (Ok moved)) first
     (subst (λ (d : Bool). RestsPlainly (own_by a.client (end_of x lent f) (known_of old.window)) (own_by b.client (end_of y new.link d) (known_of new.window)) (Ok moved)) next is))) in
-    let before : FollowsReplay granted now (between_of unit a old) = pair_was (FollowsReplay granted now) old a was follows unit in
+    let before : RestsAs granted now (between_of unit a old) = pair_was (RestsAs granted now) old a was follows unit in
     let (talk', later, tag, left) = rests granted unit (end_of [] old.link true) (end_of [] new.link true) now
     (server_stays unit a b old new drives talk.calm.ends.server_took own) talk before in
-    (talks_at granted unit [] new b there talk', asks_at [] old new a b was there (none_anew a.client b.client (omega (arith, before.tag, left.tag, tag))), later, follows_all granted unit later new b there left)
+    (talks_at granted unit [] new b there talk', asks_at [] old new a b was there (none_anew a.client b.client (omega (arith, tag))), later, rests_all granted unit later new b there left)
 
 -- what is so of a step that says it did nothing as of one that did something is so of a step as it is told
 pub since_keeps : (P : Step → Type 0) (before now : ℕ) (step told : Step) → (P (steps.Waits moves.Quiet) → P (steps.Waits moves.Moved)) → IsToldSince before now step told → P step → P told

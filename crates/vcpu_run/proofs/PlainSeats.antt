@@ -1,14 +1,16 @@
 -- What a step, the taking of all the rest and the putting of events leave of the pairs of plain clients, in the list of all pairs.
-use Rattle.std.proofs.Common.{◌≡◌, ◌≢◌, ◌∙◌, ◌⊎◌, inl, inr, ℕ, IsSomeAnd, List, [], OnOk, Option, Some, None, Result, Ok, Err, slice_get, slice_set, length, refl, sym, ap, subst, arith}
+use Rattle.std.proofs.Common.{◌≡◌, ◌≢◌, ◌∙◌, ◌⊎◌, inl, inr, ℕ, IsSomeAnd, List, [], ◌∷◌, false, true, OnOk, Option, Some, None, Result, Ok, Err, slice_get, slice_set, length, refl, sym, ap, subst, arith}
 use Rattle.std.proofs.lemmas.List.Elements.{All-nil}
 use Rattle.std.proofs.lemmas.Option.{slice_get_within}
 use Rattle.vio_num.specs.declared.memory.NoMemory.{NoMemory}
 use Rattle.boot_text.specs.declared.plan.Line.{Line}
 use Rattle.boot_text.specs.declared.verb.Verb.{Verb}
+use Rattle.crq_session.specs.PlainState.{side_of}
 use Rattle.unit_region.specs.declared.step.Step.{Step}
+use Rattle.block_server.specs.Talk.Word.{gone}
 use Rattle.vcpu_run.specs.Pairs.{AreDriven, Drives}
-use Rattle.vcpu_run.specs.PlainScripts.{AllRestPlainly, AllTalkOn, LinePlainly, PairAsks, PairPlainly, PairRestsPlainly, PairTalksOn, SeatPlainly, rows_in}
-use Rattle.vcpu_run.specs.PlainSteps.{AsksAnew, IsNewWord}
+use Rattle.vcpu_run.specs.PlainScripts.{AllFailPlainly, AllRestPlainly, AllTalkOn, LinePlainly, PairAsks, PairFailed, PairFailsPlainly, PairIs, PairPlainly, PairRestsPlainly, PairTalksOn, SeatPlainly, rows_in}
+use Rattle.vcpu_run.specs.PlainSteps.{AsksAnew, WasFailed, IsNewWord, KeepsLogin}
 use Rattle.vcpu_run.specs.declared.driver.Driver.{Driver}
 use Rattle.vcpu_run.specs.declared.pair.Pair.{Pair}
 use Rattle.vcpu_run.specs.declared.script.Progress.{Progress}
@@ -62,7 +64,7 @@ none_then last b c = by b.driver c.driver
         → IsSomeAnd y (λ driver. AsksAnew last driver.client [])
     by None y first next = absurd first
     by (Some d) None first next = absurd next
-    by (Some d) (Some e) first next = record { more = omega (arith, first.more, next.more); asked = All-nil (IsNewWord last (length e.client.rows)) }
+    by (Some d) (Some e) first next = record { more = omega (arith, first.more, next.more); asked = All-nil (IsNewWord last (length e.client.rows)); logins = All-nil (KeepsLogin e.client.rows) }
 
 rests_then : (a b c : Pair) → PairRestsPlainly a b → PairRestsPlainly b c → PairRestsPlainly a c
 rests_then a b c first next granted unit now talks follows =
@@ -85,6 +87,53 @@ all_rest_on a b c = each_on PairRestsPlainly a b c rests_then
 pub all_rest_ok : {T E : Type 0} (r : Result T E) (pairs : List Pair) (i : ℕ) (old new : Pair) → slice_get pairs i ≡ Some old → OnOk r (PairRestsPlainly old new)
     → OnOk r (AllRestPlainly pairs (slice_set pairs i new))
 all_rest_ok r pairs i old new = each_ok PairRestsPlainly r pairs i old new rests_same
+
+-- ---- the partition fails
+
+fails_same : (pair : Pair) → PairFailsPlainly pair pair
+fails_same pair granted unit words talks may = record { later = words; talks = talks; said = inl refl; rows = refl; left = inl (refl, refl) }
+
+fails_then : (a b c : Pair) → PairFailsPlainly a b → PairFailsPlainly b c → PairFailsPlainly a c
+fails_then a b c first next granted unit words talks may = record {
+  later = two.later;
+  talks = two.talks;
+  said = said two.said one.said;
+  rows = two.rows ∙ one.rows;
+  left = left two.left one.left;
+}
+  where
+    one : PairFailed granted unit words a b
+    one = first granted unit words talks may
+
+    still : ((b ≡ a) × (one.later ≡ words)) ⊎ PairIs WasFailed b → ((words ≡ []) × ((side_of a.link false).registered ≡ true)) ⊎ PairIs WasFailed a
+        → ((one.later ≡ []) × ((side_of b.link false).registered ≡ true)) ⊎ PairIs WasFailed b
+    still (inr failed) may = inr failed
+    still (inl same) (inl is) = inl (same.1 ∙ is.0, ap (λ (pair : Pair). (side_of pair.link false).registered) same.0 ∙ is.1)
+    still (inl same) (inr failed) = inr (subst (PairIs WasFailed) (sym same.0) failed)
+
+    two : PairFailed granted unit one.later b c
+    two = next granted unit one.later one.talks (still one.left may)
+
+    said : (two.later ≡ one.later) ⊎ (two.later ≡ gone ∷ []) → (one.later ≡ words) ⊎ (one.later ≡ gone ∷ []) → (two.later ≡ words) ⊎ (two.later ≡ gone ∷ [])
+    said (inr told) before = inr told
+    said (inl same) (inl before) = inl (same ∙ before)
+    said (inl same) (inr told) = inr (same ∙ told)
+
+    left : ((c ≡ b) × (two.later ≡ one.later)) ⊎ PairIs WasFailed c → ((b ≡ a) × (one.later ≡ words)) ⊎ PairIs WasFailed b
+        → ((c ≡ a) × (two.later ≡ words)) ⊎ PairIs WasFailed c
+    left (inr failed) before = inr failed
+    left (inl same) (inl before) = inl (same.0 ∙ before.0, same.1 ∙ before.1)
+    left (inl same) (inr failed) = inr (subst (PairIs WasFailed) (sym same.0) failed)
+
+pub all_fail_same : (pairs : List Pair) → AllFailPlainly pairs pairs
+all_fail_same pairs = each_same PairFailsPlainly pairs fails_same
+
+pub all_fail_on : (a b c : List Pair) → AreDriven a b → AllFailPlainly a b → AllFailPlainly b c → AllFailPlainly a c
+all_fail_on a b c = each_on PairFailsPlainly a b c fails_then
+
+pub all_fail_ok : {T E : Type 0} (r : Result T E) (pairs : List Pair) (i : ℕ) (old new : Pair) → slice_get pairs i ≡ Some old → OnOk r (PairFailsPlainly old new)
+    → OnOk r (AllFailPlainly pairs (slice_set pairs i new))
+all_fail_ok r pairs i old new = each_ok PairFailsPlainly r pairs i old new fails_same
 
 pub all_talk_same : (pairs : List Pair) → AllTalkOn pairs pairs
 all_talk_same pairs = each_same PairTalksOn pairs talks_same

@@ -25,8 +25,8 @@ use Rattle.vscsi_client.specs.declared.outgoing.Outgoing.{Outgoing}
 use Rattle.vscsi_client.specs.declared.outgoing.Span.{Span}
 use Rattle.vscsi_client.specs.declared.row.Row.{Row}
 use Rattle.vcpu_run.specs.Commands.{IsOpOf}
-use Rattle.vcpu_run.specs.PlainSteps.{AreReplayedAs, AsksAnew, HasCome, FollowsReplay, IsNewWord, StepsOn, have_page_of}
-use Rattle.vcpu_run.specs.PlainTalk.{Between, ServerStays, TalksPlainly, client_ports, word_of}
+use Rattle.vcpu_run.specs.PlainSteps.{AreReplayedAs, AsksAnew, HasCome, FollowsReplay, IsNewWord, StepsOn, have_page_of, KeepsLogin}
+use Rattle.vcpu_run.specs.PlainTalk.{Between, ServerStays, TalksPlainly, client_ports, owes, word_of, is_login}
 use Rattle.vcpu_run.specs.Replay.{Asked as Replayed, Range, Replay, asks, logged_out, ranges_of, refusal, with_asked}
 use Rattle.vcpu_run.specs.Sendings.{SaysSent, SaysWhy, says_as}
 use Rattle.vcpu_run.specs.declared.script.Progress.{Progress}
@@ -46,12 +46,23 @@ abbrev TagIs : ℕ → Word → Type 0
 TagIs tag (asks' address bytes iu) = tag_asked iu ≡ tag
 TagIs tag word = ⊤
 
-one_anew : (s s' : ClientState) (word : Word) → length s'.rows ≡ length s.rows + 1 → TagIs (next_tag s) word → AsksAnew (length s.rows) s' (word ∷ [])
-one_anew s s' word more tag = record {
+-- and it was no login
+abbrev IsOther : Word → Type 0
+IsOther (asks' address bytes iu) = is_login iu ≡ false
+IsOther word = ⊤
+
+one_anew : (s s' : ClientState) (word : Word) → length s'.rows ≡ length s.rows + 1 → TagIs (next_tag s) word → IsOther word → AsksAnew (length s.rows) s' (word ∷ [])
+one_anew s s' word more tag other = record {
   more = omega (arith, more);
   asked = All-cons (IsNewWord (length s.rows) (length s'.rows)) word [] (by word tag) (All-nil (IsNewWord (length s.rows) (length s'.rows)));
+  logins = All-cons (KeepsLogin s'.rows) word [] (none word other) (All-nil (KeepsLogin s'.rows));
 }
   where
+    none : (word : Word) → IsOther word → KeepsLogin s'.rows word
+    none (asks' address bytes iu) other = λ login. absurd (true≢false (sym login ∙ other))
+    none begins other = tt
+    none gone other = tt
+
     by : (word : Word) → TagIs (next_tag s) word → IsNewWord (length s.rows) (length s'.rows) word
     by (asks' address bytes iu) tag = (omega (arith, tag), omega (arith, tag, more))
     by begins tag = tt
@@ -188,7 +199,7 @@ pub command_on : (granted line : ℕ) (verb : Verb) (p : Progress) (op : Op) (no
     → IfSome (command_refusal at.window.place.size at.client op) (λ x. (answer ≡ Err x) × (at'.client ≡ at.client) × (at'.own ≡ at.own) × (at'.window ≡ at.window))
     → IfOk answer (Submitted line op at.client at'.client (client_ports at) (client_ports at'))
     → (command_refusal at.window.place.size at.client op ≡ None → IfErr answer (WhyNotSubmitted line op at.client at'.client (client_ports at) (client_ports at')))
-    → IfOk result (StepsOn granted verb p now (length at.client.rows) at')
+    → IfOk result (StepsOn granted verb p now (length at.client.rows) (owes at []) at')
 command_on granted line verb p op now at at' answer result is fits talks come stays sends wrote says reason memory refused submitted why_not =
     asks_on granted verb p now sent at at' why answer result
     (subst (λ (o : Option Outcome). SendsUnless granted pages verb now o sent) (sym as_replayed) unless) talks holds stays wrote.place
@@ -243,10 +254,10 @@ command_on granted line verb p op now at at' answer result is fits talks come st
             login = ap (λ (s : ClientState). s.login) sub.client;
             handshake = ap (λ (s : ClientState). s.handshake) sub.client;
           }),
-      word_of (record { tag = next_tag at.client; slot = sub.slot; iu = units.Cmd sub.command; bytes = sub.put.0; pages = data_span op; table = table_span op }) ∷ [],
+      word_of (record { tag = next_tag at.client; slot = sub.slot; iu = units.Cmd sub.command; bytes = sub.put.0; pages = data_span op; table = table_span op; start = op.at }) ∷ [],
       command_says granted line op at at' tag sub fits talks holds.login sends stays,
-      one_anew at.client at'.client (word_of (record { tag = next_tag at.client; slot = sub.slot; iu = units.Cmd sub.command; bytes = sub.put.0; pages = data_span op; table = table_span op }))
-          (rows_more at.client.rows _ at'.client.rows (ap (λ (s : ClientState). s.rows) sub.client)) sub.is_command.tag_is,
+      one_anew at.client at'.client (word_of (record { tag = next_tag at.client; slot = sub.slot; iu = units.Cmd sub.command; bytes = sub.put.0; pages = data_span op; table = table_span op; start = op.at }))
+          (rows_more at.client.rows _ at'.client.rows (ap (λ (s : ClientState). s.rows) sub.client)) sub.is_command.tag_is refl,
     )
       where
         sub : Submitted line op at.client at'.client (client_ports at) (client_ports at') tag
@@ -272,7 +283,7 @@ pub task_on : (granted line function task : ℕ) (p : Progress) (now : Replay) (
     → IfSome (task_refusal at.client) (λ x. (answer ≡ Err x) × (at'.own ≡ at.own) × (at'.window ≡ at.window)) → OnErr answer (at'.client ≡ at.client)
     → IfOk answer (Tasked line function task at.client at'.client (client_ports at) (client_ports at'))
     → (task_refusal at.client ≡ None → IfErr answer (WhyNotSent line at.client (task_unit function task at.client) (client_ports at) (client_ports at')))
-    → IfOk result (StepsOn granted (verbs.Task function task) p now (length at.client.rows) at')
+    → IfOk result (StepsOn granted (verbs.Task function task) p now (length at.client.rows) (owes at []) at')
 task_on granted line function task p now at at' answer result talks come stays sends wrote says reason memory refused same tasked why_not =
     asks_on granted (verbs.Task function task) p now sent at at' why answer result
     (subst (λ (o : Option Outcome). SendsUnless granted pages (verbs.Task function task) now o sent)
@@ -314,10 +325,10 @@ task_on granted line function task p now at at' answer result talks come stays s
             login = ap (λ (s : ClientState). s.login) sub.client;
             handshake = ap (λ (s : ClientState). s.handshake) sub.client;
           }),
-      word_of (record { tag = next_tag at.client; slot = sub.slot; iu = task_unit function task at.client; bytes = sub.put.put.0; pages = no_pages; table = no_pages }) ∷ [],
+      word_of (record { tag = next_tag at.client; slot = sub.slot; iu = task_unit function task at.client; bytes = sub.put.put.0; pages = no_pages; table = no_pages; start = 0 }) ∷ [],
       task_says granted line function task at at' tag sub talks come.login sends stays,
-      one_anew at.client at'.client (word_of (record { tag = next_tag at.client; slot = sub.slot; iu = task_unit function task at.client; bytes = sub.put.put.0; pages = no_pages; table = no_pages }))
-          (rows_more at.client.rows _ at'.client.rows (ap (λ (s : ClientState). s.rows) sub.client)) refl,
+      one_anew at.client at'.client (word_of (record { tag = next_tag at.client; slot = sub.slot; iu = task_unit function task at.client; bytes = sub.put.put.0; pages = no_pages; table = no_pages; start = 0 }))
+          (rows_more at.client.rows _ at'.client.rows (ap (λ (s : ClientState). s.rows) sub.client)) refl refl,
     )
       where
         sub : Tasked line function task at.client at'.client (client_ports at) (client_ports at') tag
@@ -336,7 +347,7 @@ pub logout_on : (granted line : ℕ) (p : Progress) (now : Replay) (at at' : Bet
     → IfSome (logout_why at.client) (λ x. (answer ≡ Err x) × (at'.own ≡ at.own) × (at'.window ≡ at.window)) → OnErr answer (at'.client ≡ at.client)
     → IfOk answer (LoggedOut line at.client at'.client (client_ports at) (client_ports at'))
     → (logout_why at.client ≡ None → IfErr answer (WhyNotSent line at.client (logout_unit at.client) (client_ports at) (client_ports at')))
-    → IfOk result (StepsOn granted verbs.Logout p now (length at.client.rows) at')
+    → IfOk result (StepsOn granted verbs.Logout p now (length at.client.rows) (owes at []) at')
 logout_on granted line p now at at' answer result talks come stays sends wrote says reason memory refused same logged why_not =
     asks_on granted verbs.Logout p now (logged_out now) at at' why answer result
     (subst (λ (o : Option Outcome). SendsUnless granted at.window.place.size verbs.Logout now o (logged_out now))
@@ -373,10 +384,10 @@ logout_on granted line p now at at' answer result talks come stays sends wrote s
           within = come.credits.within;
         };
       },
-      word_of (record { tag = next_tag at.client; slot = sub.slot; iu = logout_unit at.client; bytes = sub.put.put.0; pages = no_pages; table = no_pages }) ∷ [],
+      word_of (record { tag = next_tag at.client; slot = sub.slot; iu = logout_unit at.client; bytes = sub.put.put.0; pages = no_pages; table = no_pages; start = 0 }) ∷ [],
       logout_says granted line at at' tag sub talks come.login sends stays,
-      one_anew at.client at'.client (word_of (record { tag = next_tag at.client; slot = sub.slot; iu = logout_unit at.client; bytes = sub.put.put.0; pages = no_pages; table = no_pages }))
-          (rows_more at.client.rows _ at'.client.rows (ap (λ (s : ClientState). s.rows) sub.client)) refl,
+      one_anew at.client at'.client (word_of (record { tag = next_tag at.client; slot = sub.slot; iu = logout_unit at.client; bytes = sub.put.put.0; pages = no_pages; table = no_pages; start = 0 }))
+          (rows_more at.client.rows _ at'.client.rows (ap (λ (s : ClientState). s.rows) sub.client)) refl refl,
     )
       where
         sub : LoggedOut line at.client at'.client (client_ports at) (client_ports at') tag

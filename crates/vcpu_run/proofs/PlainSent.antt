@@ -16,10 +16,12 @@ use Rattle.vscsi_client.specs.declared.op.Op.{Op}
 use Rattle.vscsi_client.specs.declared.outgoing.Outgoing.{Outgoing}
 use Rattle.vscsi_client.specs.declared.outgoing.Span.{Span}
 use Rattle.vscsi_client.specs.declared.row.Row.{Row}
+use Rattle.vscsi_client.specs.declared.row.Row.TheVariants as rows
 use Rattle.vscsi_client.specs.declared.stage.Stage.TheVariants.{Idle}
 use Rattle.vcpu_run.proofs.PlainData.{meets_none, no_data}
 use Rattle.vcpu_run.specs.PlainTalk.{Ask, Between, DataLies, KeepsTables, KeepsSlots}
 use Rattle.vcpu_run.proofs.PlainAsks.{Sends, SendsOut}
+use Rattle.vcpu_run.proofs.PlainStarts.{push_places, starts_command, starts_none}
 
 -- a request that is not refused is granted
 lends : (granted : Option ℕ) (n : ℕ) (overlap : Option ℕ) → refused_by granted n overlap ≡ None → (m : ℕ) × (granted ≡ Some m) × (n < m)
@@ -93,8 +95,8 @@ none_spared (o ∷ outgoing) = All-cons (Spares no_pages) o outgoing (meets_none
 
 pub command_sends : (line : ℕ) (op : Op) (at at' : Between) (old new : Ports) (tag : ℕ) (sub : Submitted line op at.client at'.client old new tag) → at.client.login ≡ Idle
     → StaysElse at at' sub.slot (table_span op)
-    → DataLies at'.window (record { tag = next_tag at.client; slot = sub.slot; iu = units.Cmd sub.command; bytes = sub.put.0; pages = data_span op; table = table_span op })
-    → Sends at at' (record { tag = next_tag at.client; slot = sub.slot; iu = units.Cmd sub.command; bytes = sub.put.0; pages = data_span op; table = table_span op })
+    → DataLies at'.window (record { tag = next_tag at.client; slot = sub.slot; iu = units.Cmd sub.command; bytes = sub.put.0; pages = data_span op; table = table_span op; start = op.at })
+    → Sends at at' (record { tag = next_tag at.client; slot = sub.slot; iu = units.Cmd sub.command; bytes = sub.put.0; pages = data_span op; table = table_span op; start = op.at })
 command_sends line op at at' old new tag sub idle stays has = record {
   unit = stays.unit;
   registered = stays.registered;
@@ -120,6 +122,9 @@ command_sends line op at at' old new tag sub idle stays has = record {
   is_counted = refl;
   next = refl;
   rows = rows_more at.client.rows _ at'.client.rows (ap (λ (s : ClientState). s.rows) sub.client);
+  places = push_places at.client.rows at'.client.rows (rows.Command op.dir op.at op.len None) (ap (λ (s : ClientState). s.rows) sub.client);
+  starts = starts_command at.client.rows at'.client.rows op
+      (record { tag = next_tag at.client; slot = sub.slot; iu = units.Cmd sub.command; bytes = sub.put.0; pages = data_span op; table = table_span op; start = op.at }) (ap (λ (s : ClientState). s.rows) sub.client) refl refl;
   outgoing = ap (λ (s : ClientState). s.outgoing) sub.client;
   handshake = ap (λ (s : ClientState). s.handshake) sub.client;
   due = ap (λ (s : ClientState). s.due) sub.client;
@@ -136,7 +141,7 @@ command_sends line op at at' old new tag sub idle stays has = record {
 
 pub task_sends : (line function task : ℕ) (at at' : Between) (old new : Ports) (tag : ℕ) (sub : Tasked line function task at.client at'.client old new tag)
     → at.client.login ≡ Idle → at.client.tabled ≡ None → StaysElse at at' sub.slot no_pages
-    → Sends at at' (record { tag = next_tag at.client; slot = sub.slot; iu = task_unit function task at.client; bytes = sub.put.put.0; pages = no_pages; table = no_pages })
+    → Sends at at' (record { tag = next_tag at.client; slot = sub.slot; iu = task_unit function task at.client; bytes = sub.put.put.0; pages = no_pages; table = no_pages; start = 0 })
 task_sends line function task at at' old new tag sub idle tabled stays = record {
   unit = stays.unit;
   registered = stays.registered;
@@ -144,7 +149,7 @@ task_sends line function task at at' old new tag sub idle tabled stays = record 
   keeps = stays.keeps;
   tables = stays.tables;
   spares = none_spared at.client.outgoing;
-  has = no_data at'.window (record { tag = next_tag at.client; slot = sub.slot; iu = task_unit function task at.client; bytes = sub.put.put.0; pages = no_pages; table = no_pages }) refl;
+  has = no_data at'.window (record { tag = next_tag at.client; slot = sub.slot; iu = task_unit function task at.client; bytes = sub.put.put.0; pages = no_pages; table = no_pages; start = 0 }) refl;
   grants = lends at.client.granted (length at.client.outgoing) None sub.allowed;
   idle = idle;
   free = free.1;
@@ -159,6 +164,9 @@ task_sends line function task at at' old new tag sub idle tabled stays = record 
   is_counted = refl;
   next = refl;
   rows = rows_more at.client.rows _ at'.client.rows (ap (λ (s : ClientState). s.rows) sub.client);
+  places = push_places at.client.rows at'.client.rows rows.Task (ap (λ (s : ClientState). s.rows) sub.client);
+  starts = starts_none at.client.rows at'.client.rows rows.Task
+      (record { tag = next_tag at.client; slot = sub.slot; iu = task_unit function task at.client; bytes = sub.put.put.0; pages = no_pages; table = no_pages; start = 0 }) (ap (λ (s : ClientState). s.rows) sub.client) refl refl;
   outgoing = ap (λ (s : ClientState). s.outgoing) sub.client;
   handshake = ap (λ (s : ClientState). s.handshake) sub.client;
   due = ap (λ (s : ClientState). s.due) sub.client;
@@ -180,7 +188,7 @@ none_out (Some n) [] none = ((n, refl), refl)
 none_out (Some n) (o ∷ outgoing) none = absurd (cc (none))
 
 pub logout_sends : (line : ℕ) (at at' : Between) (old new : Ports) (tag : ℕ) (sub : LoggedOut line at.client at'.client old new tag) → at.client.login ≡ Idle
-    → StaysElse at at' sub.slot no_pages → SendsOut at at' (record { tag = next_tag at.client; slot = sub.slot; iu = logout_unit at.client; bytes = sub.put.put.0; pages = no_pages; table = no_pages })
+    → StaysElse at at' sub.slot no_pages → SendsOut at at' (record { tag = next_tag at.client; slot = sub.slot; iu = logout_unit at.client; bytes = sub.put.put.0; pages = no_pages; table = no_pages; start = 0 })
 logout_sends line at at' old new tag sub idle stays = record {
   unit = stays.unit;
   registered = stays.registered;
@@ -200,6 +208,8 @@ logout_sends line at at' old new tag sub idle stays = record {
   is_out = refl;
   next = refl;
   rows = rows_more at.client.rows _ at'.client.rows (ap (λ (s : ClientState). s.rows) sub.client);
+  starts = starts_none at.client.rows at'.client.rows rows.Logout
+      (record { tag = next_tag at.client; slot = sub.slot; iu = logout_unit at.client; bytes = sub.put.put.0; pages = no_pages; table = no_pages; start = 0 }) (ap (λ (s : ClientState). s.rows) sub.client) refl refl;
   handshake = ap (λ (s : ClientState). s.handshake) sub.client;
   due = ap (λ (s : ClientState). s.due) sub.client;
   held = ap (λ (s : ClientState). s.held) sub.client;

@@ -26,7 +26,7 @@ use Rattle.vscsi_client.specs.State.{ClientState}
 use Rattle.vscsi_client.specs.Units.{slot_address}
 use Rattle.vscsi_client.specs.declared.TheConstants.{SLOTS}
 use Rattle.vscsi_client.specs.declared.stage.Stage.TheVariants.{Idle}
-use Rattle.vcpu_run.specs.PlainTalk.{AgreeOnLogin, AnswerStands, AreApart, CountsAsked, AreInOrder, ArePending, AreSpared, Ask, AskedParts, Between, ClientStays, HasAnswer, DataLies, HaveAnswers, InPhase, IsAsk, IsCalm, IsFair, IsPendingAs, IsTalking, KeepsTables, KeepsSlots, SaysOfLogin, TagsRise, TalksPlainly, all_asked, awaited, counted, grants_one, has_login, has_logout, is_counted, is_grant, is_granted, is_login, is_logout, is_sent, names_of, on_behind, word_of}
+use Rattle.vcpu_run.specs.PlainTalk.{AgreeOnLogin, AnswerStands, AreApart, CountsAsked, AreInOrder, ArePending, AreSpared, Ask, AskedParts, Between, ClientStays, HasAnswer, DataLies, HaveAnswers, InPhase, IsAsk, IsCalm, IsFair, IsPendingAs, IsTalking, KeepsTables, KeepsSlots, SaysOfLogin, TagsRise, TalksPlainly, all_asked, awaited, counted, grants_one, has_login, has_logout, is_counted, is_grant, is_granted, is_login, is_logout, is_sent, names_of, on_behind, word_of, StartsAt}
 use Rattle.vcpu_run.proofs.PlainLists.{all_without, answers_plain, answers_push, apart_front, apart_without, counted_behind, counted_no_login, counted_push, first_logout, granted_push, last_login, login_counted, login_no_logout, login_push, login_without, logout_behind, logout_no_login, logout_not_counted, logout_push, names_without, no_login, on_counted, on_login, on_out, order_logout, order_tail, outstanding_by, pending_push, rise_without, takes_by}
 use Rattle.vcpu_run.proofs.PlainReady.{all_front, all_rest}
 use Rattle.vcpu_run.proofs.PlainTurns.{Turns, away_behind, begun_behind, calm_behind, come_more, gets_all, hears_granted, puts_no, sent_same}
@@ -85,7 +85,7 @@ heard_one unit middle n pending ask is_ask are counts (between, one, same) = rec
     current : middle.logins.current ≡ unit.logins.current
     current = ap (λ (t : Talk). t.current) same ∙ one.current
 
-heard_talk : (unit middle : Unit) (n : ℕ) (pending coming : List Ask) → length coming ≤ 1 → All IsAsk coming → ArePending unit.pending.items pending → CountsAsked unit pending
+pub heard_talk : (unit middle : Unit) (n : ℕ) (pending coming : List Ask) → length coming ≤ 1 → All IsAsk coming → ArePending unit.pending.items pending → CountsAsked unit pending
     → HearsAll (talk_of unit) n (map word_of coming) (talk_of middle) → IsHeard unit middle (pending ++ coming)
 heard_talk unit middle n pending [] few each are counts all =
     subst (IsHeard unit middle) (sym (append-nil pending)) (heard_none unit middle n pending are counts all)
@@ -161,6 +161,7 @@ record Left (granted : ℕ) (at at' : Between) (whole answered rest : List Ask) 
   answered_are : HaveAnswers at'.window (at.client.kept ++ to_come at'.own) answered answers
   counts : CountsAsked at'.unit rest
   tables : All (DataLies at'.window) rest
+  starts : All (StartsAt at.client.rows) rest
   spared : AreSpared rest
   logs : Logs at.client.granted at'.unit.logins.current answered rest answers
   grant : All (SaysOfLogin granted) answers
@@ -192,6 +193,8 @@ talk_so granted at at' words asked answers whole answered rest answers' talk sta
   within = subst (λ (s : ClientState). length s.outgoing ≤ 200) (sym stays.client) talk.within;
   counts = left.counts;
   tables = subst (All (DataLies at'.window)) (sym (append-nil rest)) left.tables;
+  starts = subst (λ (s : ClientState). All (StartsAt s.rows) (rest ++ [])) (sym stays.client)
+      (subst (All (StartsAt at.client.rows)) (sym (append-nil rest)) left.starts);
   spared = subst AreSpared (sym (append-nil rest)) left.spared;
   login = record {
     credits = subst (λ (s : ClientState). (s.granted ≡ None) ⊎ (s.granted ≡ Some (min granted 200))) (sym stays.client) talk.login.credits;
@@ -207,7 +210,7 @@ talk_so granted at at' words asked answers whole answered rest answers' talk sta
     whole_is = ap (λ (list : List Ask). answered ++ list) (append-nil rest) ∙ left.is
 
 -- the first of what is pending
-pending_first : (request : Request) (rest : List Request) (asked : List Ask) → ArePending (request ∷ rest) asked
+pub pending_first : (request : Request) (rest : List Request) (asked : List Ask) → ArePending (request ∷ rest) asked
     → (ask : Ask) × (more : List Ask) × (asked ≡ ask ∷ more) × IsPendingAs request ask × ArePending rest more
 pending_first request rest [] are = absurd are
 pending_first request rest (ask ∷ more) are = (ask, more, refl, are.0, are.1)
@@ -265,6 +268,7 @@ served_none granted at at' lines lines' words asked answers calm talk turn stays
       (all_front IsAsk asked.answered pending talk.each) talk.answered);
   counts = subst (λ (u : Unit). CountsAsked u pending) (sym none.same) heard.counts;
   tables = all_kept at.window at'.window (λ ask. ⊤) stay pending (all_spared pending) talk.tables;
+  starts = talk.starts;
   spared = talk.spared;
   logs = record {
     before = λ no'. talk.login.before no' ∙ ap (λ c. on_behind (nat_le 1 c) pending) (sym current);
@@ -319,6 +323,7 @@ served_out granted at at' lines lines' words asked answers calm talk turn stays 
       (apart_front asked.answered ask more (subst (λ (list : List Ask). AreApart (asked.answered ++ list)) is talk.slots))
       (all_front IsAsk asked.answered (asked.pending ++ asked.coming) talk.each) talk.answered);
   tables = left_tables at at' asked.pending asked.coming ask more is leaves talk.spared talk.tables;
+  starts = All-tail (StartsAt at.client.rows) ask more (subst (All (StartsAt at.client.rows)) is talk.starts);
   spared = (subst AreSpared is talk.spared).1;
   counts = record {
     taking = out.taking ∙ sym (ap (λ c. nat_le 1 c && not (has_logout more)) out.current);
@@ -494,6 +499,7 @@ served_one granted at at' lines lines' words asked answers calm talk turn stays 
       }));
   counts = counts_by is_ask.kind;
   tables = left_tables at at' asked.pending asked.coming ask more is leaves talk.spared talk.tables;
+  starts = All-tail (StartsAt at.client.rows) ask more (subst (All (StartsAt at.client.rows)) is talk.starts);
   spared = (subst AreSpared is talk.spared).1;
   logs = logs_by is_ask.kind;
   grant = All-push (SaysOfLogin granted) answers answer talk.login.grant (subst (λ n. SaysOfLogin n answer) grants_is stands.credits);

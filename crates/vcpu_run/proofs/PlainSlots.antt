@@ -28,6 +28,7 @@ slot_on window own slot len within some few = record {
   some = some;
   fits = omega (arith, few);
   inside = omega (arith, within, own.size);
+  front = omega (arith, within);
 }
 
 -- two slots have no byte in common, nor has what lies behind them

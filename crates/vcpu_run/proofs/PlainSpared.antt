@@ -8,7 +8,7 @@ use Rattle.boot_text.specs.declared.verb.Verb.TheVariants as verbs
 use Rattle.vio_trace.specs.declared.outcome.Outcome.{Outcome}
 use Rattle.vio_trace.specs.declared.rows.LogRow.{LogRow}
 use Rattle.vcpu_run.specs.Credited.{Ended, ended_by}
-use Rattle.vcpu_run.specs.PlainClients.{IsPlainClient, lie_behind, is_entry, lines_of, tables_in, tables_of, written_by}
+use Rattle.vcpu_run.specs.PlainClients.{IsPlainClient, keeps_own, lie_behind, lines_of, tables_in, tables_of, written_by}
 use Rattle.vcpu_run.specs.PlainScripts.{after_ended}
 use Rattle.vcpu_run.specs.PlainSteps.{IsPlainVerb, SparesTables}
 use Rattle.vcpu_run.specs.Replay.{Asked, Range, Replay, after_line, any_share, before_lines, left_unless, logout_refusal, ranges_of, refusal, share_page, with_asked}
@@ -150,7 +150,7 @@ spared_ended granted pages u written now (line ∷ lines) (row ∷ logs) all spa
 
 pub plain_verb : (u : ℕ) (lines : List Line) (n : ℕ) (line : Line) → IsPlainClient u lines → slice_get lines n ≡ Some line → (line.unit == u) ≡ true → IsPlainVerb line.verb
 plain_verb u lines n line plain found own = record {
-  no_entry = filtered u (λ l. is_entry l.verb ≡ false) lines n line plain.no_entry found own;
+  own_entry = filtered u (λ l. keeps_own l.verb ≡ true) lines n line plain.own_entries found own;
   behind = filtered u (λ l. lie_behind (written_by l.verb) ≡ true) lines n line plain.behind found own;
 }
 

@@ -1,5 +1,5 @@
 -- What stands in a window that is its owner's own: what a read finds there, and what stays there behind a write elsewhere.
-use Rattle.std.proofs.Common.{◌≡◌, ◌∙◌, ◌⊎◌, inl, inr, ℕ, zero, suc, ◌+◌, ◌-◌, ◌*◌, ◌/◌, ◌%◌, ◌<◌, ◌≤◌, ◌==◌, ◌++◌, min, All, Bool, true, false, cond, IsTrue, List, [], ◌∷◌, Option, Some, None, IsSome, append-nil, drop, get_or, length, length-drop, length-take, refl, slice_get, slice_range, sym, take, ap, ap₂, subst, arith}
+use Rattle.std.proofs.Common.{◌≡◌, ◌∙◌, ◌⊎◌, inl, inr, ℕ, ◌+◌, ◌-◌, ◌*◌, ◌/◌, ◌%◌, ◌<◌, ◌≤◌, ◌==◌, ◌++◌, min, All, Bool, true, false, cond, IsTrue, List, [], ◌∷◌, Option, Some, None, IsSome, append-nil, drop, get_or, length, length-append, length-drop, length-take, refl, slice_get, slice_range, sym, take, ap, ap₂, subst, arith}
 use Rattle.std.specs.List.{flat_map}
 use Rattle.std.proofs.lemmas.Bool.Decides.{nat_tests}
 use Rattle.std.proofs.lemmas.Grind.{same_number_lists}
@@ -12,14 +12,14 @@ use Rattle.vio_num.specs.declared.names.UnitId.{UnitId}
 use Rattle.tce_window.specs.declared.answers.Right.{Right}
 use Rattle.tce_window.specs.declared.answers.Right.TheVariants.{Read, Write}
 use Rattle.tce_window.specs.declared.piece.Piece.{Piece}
-use Rattle.tce_window.specs.Grant.{grants}
+use Rattle.tce_window.specs.Grant.{IsCurrent, grants}
 use Rattle.tce_window.specs.Moved.{left_at, read_bytes, stroke_count}
 use Rattle.tce_window.specs.Pieces.{HasStrokes, IsGranted, IsLast, IsUsable, MayUse, Touches}
 use Rattle.tce_window.specs.PortState.{PortState, Reads}
 use Rattle.tce_window.specs.Region.{byte_in, region_byte}
 use Rattle.block_server.specs.Talk.{IsReadWhole, StandAt}
 use Rattle.vscsi_client.specs.Units.{slot_address}
-use Rattle.vscsi_client.specs.declared.TheConstants.{SLOTS}
+use Rattle.vscsi_client.specs.declared.TheConstants.{DATA_START, SLOTS}
 use Rattle.vcpu_run.specs.PlainTalk.{IsOwnWindow}
 use Rattle.vcpu_run.proofs.PlainPages.{left_long, shown, shown_long, shown_on}
 
@@ -29,28 +29,36 @@ grants_all : (right : Right) (e : ℕ) → grants right (4096 * e + 3) ≡ true
 grants_all Read e = grind (arith, nat_tests)
 grants_all Write e = grind (arith, nat_tests)
 
+-- an entry on the driver's pages has a last value, with all rights
+end_value : (before : List ℕ) (value : ℕ) → slice_get (before ++ value ∷ []) (length before) ≡ Some value
+end_value [] value = refl
+end_value (first ∷ before) value = end_value before value
+
+own_current : (window : PortState) → IsOwnWindow window → (e : ℕ) → 4096 * e < DATA_START → (version : ℕ) × IsCurrent window.values e version (4096 * e + 3)
+own_current window own e front = (
+  length ((own.values e).usable front).0,
+  record {
+    shown = ap (λ (list : List ℕ). slice_get list (length ((own.values e).usable front).0)) ((own.values e).usable front).1
+        ∙ end_value ((own.values e).usable front).0 (4096 * e + 3);
+    last = ap (λ (list : List ℕ). length list) ((own.values e).usable front).1 ∙ length-append ((own.values e).usable front).0 ((4096 * e + 3) ∷ []);
+  },
+)
+
 -- each slot may be used
 pub slot_usable : (window : PortState) → IsOwnWindow window → (right : Right) (slot : ℕ) → slot ≤ SLOTS → IsUsable window.values right window.place.size (slot_address slot) 256
 slot_usable window own right slot within = λ e from below. (
   omega (arith, below, within, own.size),
   record {
-    version = 0;
+    version = (own_current window own e (omega (arith, below, within))).0;
     value = 4096 * e + 3;
-    current = record { shown = ap (λ (list : List ℕ). slice_get list 0) (own.values e); last = ap (λ (list : List ℕ). length list) (own.values e) };
+    current = (own_current window own e (omega (arith, below, within))).1;
     granted = grants_all right e;
   },
 )
 
--- an entry with one value that names its own page has pieces on that alone
-pub get_one : (v n value : ℕ) → slice_get (v ∷ []) n ≡ Some value → value ≡ v
-get_one v zero value is = cc (is)
-get_one v (suc n) value is = absurd (cc (is))
-
+-- an entry has pieces on its own page alone
 pub own_page : (window : PortState) → IsOwnWindow window → (right : Right) (piece : Piece) → IsGranted window.values right piece → piece.page ≡ piece.entry
-own_page window own right piece granted =
-    let value : granted.value ≡ 4096 * piece.entry + 3 =
-    get_one (4096 * piece.entry + 3) piece.version granted.value (ap (λ (list : List ℕ). slice_get list piece.version) (sym (own.values piece.entry)) ∙ granted.shown) in
-    omega (arith, granted.page, value)
+own_page window own right piece granted = granted.page ∙ (own.values piece.entry).names piece.version granted.value granted.shown
 
 -- ---- reads
 
@@ -99,11 +107,12 @@ has_all : (piece : Piece) (now : Option (List StrokeValue)) → IsSome now → p
 has_all piece None there at = absurd (cc (there))
 has_all piece (Some strokes) there at = at
 
--- a range on a page of the region
+-- a range on a page of the region, which is one of the driver's
 pub record IsOnPage (window : PortState) (address len : ℕ) : Type 0 where
   pub some : 1 ≤ len
   pub fits : address % 4096 + len ≤ 4096
   pub inside : address / 4096 < window.place.size
+  pub front : 4096 * (address / 4096) < DATA_START
 
 pub shown_read : (window : PortState) → IsOwnWindow window → (address len : ℕ) → IsOnPage window address len → IsReadWhole window address (shown window address len)
 shown_read window own address len on = record {
@@ -115,21 +124,24 @@ shown_read window own address len on = record {
       omega (arith, long),
     );
     granted = All-cons (IsGranted window.values Read) piece []
-        (record { value = 4096 * page + 3; shown = ap (λ (list : List ℕ). slice_get list 0) (own.values page); granted = grants_all Read page; page = omega arith })
+        (record { value = 4096 * page + 3; shown = now.1.shown; granted = grants_all Read page; page = omega arith })
         (All-nil (IsGranted window.values Read));
     reached = All-cons (λ (one : Piece). one.at ≤ stroke_count (window.strokes one.page)) piece [] (omega arith)
         (All-nil (λ (one : Piece). one.at ≤ stroke_count (window.strokes one.page)));
     join = append-nil (read_bytes window.strokes piece) ∙ piece_shown piece (window.strokes page) has;
   };
-  last = All-cons (IsLast window.values) piece [] (ap (λ (list : List ℕ). length list) (own.values page)) (All-nil (IsLast window.values));
+  last = All-cons (IsLast window.values) piece [] now.1.last (All-nil (IsLast window.values));
   all = All-cons (λ (one : Piece). HasStrokes one (window.strokes one.page)) piece [] has (All-nil (λ (one : Piece). HasStrokes one (window.strokes one.page)));
 }
   where
     page : ℕ
     page = address / 4096
 
+    now : (version : ℕ) × IsCurrent window.values page version (4096 * page + 3)
+    now = own_current window own page on.front
+
     piece : Piece
-    piece = record { unit = window.place.unit; entry = page; version = 0; page = page; offset = address % 4096; len = len; at = stroke_count (window.strokes page); inside = on.fits }
+    piece = record { unit = window.place.unit; entry = page; version = now.0; page = page; offset = address % 4096; len = len; at = stroke_count (window.strokes page); inside = on.fits }
 
     long : length (shown window address len) ≡ len
     long = shown_long (window.strokes page) (address % 4096) len (own.there page on.inside) on.fits

@@ -1,5 +1,5 @@
 -- What stands in a client's own window behind a write, and behind what a server lays: what was written stands, and what lies elsewhere stays.
-use Rattle.std.proofs.Common.{◌≡◌, ◌≢◌, ◌∙◌, ◌⊎◌, inl, inr, ℕ, ◌+◌, ◌-◌, ◌*◌, ◌/◌, ◌%◌, ◌<◌, ◌≤◌, ◌==◌, ◌++◌, min, All, Bool, true, false, cond, IsTrue, List, [], ◌∷◌, Option, Some, None, IsSome, drop, length, length-drop, length-take, refl, slice_get, slice_range, sym, take, ap, ap₂, subst, arith}
+use Rattle.std.proofs.Common.{◌≡◌, ◌≢◌, ◌∙◌, ◌⊎◌, inl, inr, ℕ, ◌+◌, ◌-◌, ◌*◌, ◌/◌, ◌%◌, ◌<◌, ◌≤◌, ◌==◌, ◌++◌, min, All, Bool, true, false, cond, IsTrue, List, [], ◌∷◌, Option, Some, None, IsSome, drop, length, length-drop, length-take, refl, slice_range, sym, take, ap, ap₂, subst, arith}
 use Rattle.std.proofs.lemmas.Bool.Decides.{nat_tests}
 use Rattle.std.proofs.lemmas.List.{take_all}
 use Rattle.std.proofs.lemmas.List.Elements.{All-cons, All-nil, All-weaker}
@@ -13,9 +13,9 @@ use Rattle.tce_window.specs.Strokes.{with_strokes}
 use Rattle.block_server.specs.Ranges.{AddsEach, LaysWithin, StrokeLiesIn, StrokeLiesInOne, known_in}
 use Rattle.block_server.specs.Talk.{StandAt}
 use Rattle.vscsi_client.specs.declared.TheConstants.{DATA_START}
-use Rattle.vcpu_run.specs.PlainTalk.{IsOwnWindow}
+use Rattle.vcpu_run.specs.PlainTalk.{IsOwnEntry, IsOwnWindow}
 use Rattle.vcpu_run.proofs.PlainPages.{IsApart, left_long, shown, shown_apart, shown_last, shown_on}
-use Rattle.vcpu_run.proofs.PlainStands.{IsOnPage, get_one, shown_stand, stand_shown}
+use Rattle.vcpu_run.proofs.PlainStands.{IsOnPage, shown_stand, stand_shown}
 
 -- two ranges have no byte in common
 abbrev pub Apart : (a n b m : ℕ) → Type 0
@@ -123,7 +123,7 @@ laid_apart old new at mark bytes address len wrote some fits apart =
 -- the window is still its owner's own
 pub laid_own : (old new : PortState) (at mark : ℕ) (bytes : List ℕ) → IsOwnWindow old → Writes false old at bytes mark new → OnlyWrites old new → IsOwnWindow new
 laid_own old new at mark bytes own wrote only = record {
-  values = λ e. ap (λ (values : ℕ → List ℕ). values e) only.values ∙ own.values e;
+  values = λ e. subst (IsOwnEntry e) (sym (ap (λ (values : ℕ → List ℕ). values e) only.values)) (own.values e);
   size = subst (λ n. DATA_START ≤ 4096 * n) (sym (ap (λ place. place.size) only.place)) own.size;
   most = subst (λ n. n ≤ 256) (sym (ap (λ place. place.size) only.place)) own.most;
   there = λ p below. subst IsSome (sym (page_written name at bytes p (old.strokes p) (new.strokes p) (wrote.strokes p)))
@@ -145,11 +145,8 @@ pub lies_apart : (old : PortState) → IsOwnWindow old → (address len page : �
     → StrokeLiesIn old.values a n page stroke → Apart a n address len → IsApart (address % 4096) len stroke
 lies_apart old own address len page stroke a n is fits lies apart = by apart
   where
-    value : lies.named.value ≡ 4096 * lies.entry + 3
-    value = get_one (4096 * lies.entry + 3) lies.named.version lies.named.value (ap (λ (list : List ℕ). slice_get list lies.named.version) (sym (own.values lies.entry)) ∙ lies.named.current.shown)
-
     entry : lies.entry ≡ address / 4096
-    entry = omega (arith, value, lies.named.named, is)
+    entry = sym ((own.values lies.entry).names lies.named.version lies.named.value lies.named.current.shown) ∙ lies.named.named ∙ is
 
     by : Apart a n address len → IsApart (address % 4096) len stroke
     by (inl before) = record { within = lies.within; apart = inl (omega (arith, lies.to, before, entry)) }

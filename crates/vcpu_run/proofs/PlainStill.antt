@@ -22,7 +22,7 @@ use Rattle.vscsi_client.specs.declared.outgoing.Span.{Span}
 use Rattle.vscsi_client.specs.declared.stage.Stage.{Stage}
 use Rattle.vscsi_client.specs.declared.stage.Stage.TheVariants.{Idle, Sent, Written}
 use Rattle.vcpu_run.proofs.PlainData.{data_same, named_kept, names_rest, none_meets}
-use Rattle.vcpu_run.specs.PlainTalk.{AgreeOnLogin, CountsAsked, ArePending, AreStale, Ask, AskedParts, Between, DataLies, HaveAnswers, HearsOfClient, HearsOfGone, InPhase, IsAsk, IsAway, IsBeginning, IsCalm, IsOwnWindow, IsTalking, IsVacant, KeepsTables, KeepsSlots, ServerStays, TagsRise, TalksPlainly, all_asked, awaited, grants_one, has_login, is_logout, is_sent, login_name, name_of, names_of, on_behind}
+use Rattle.vcpu_run.specs.PlainTalk.{AgreeOnLogin, CountsAsked, ArePending, AreStale, Ask, AskedParts, Between, DataLies, HaveAnswers, HearsOfClient, HearsOfGone, InPhase, IsAsk, IsAway, IsBeginning, IsCalm, IsOwnWindow, IsTalking, IsVacant, KeepsTables, KeepsSlots, ServerStays, TagsRise, TalksPlainly, all_asked, awaited, grants_one, has_login, is_logout, is_sent, login_name, name_of, names_of, on_behind, StartsAt, IsOwnEntry}
 use Rattle.vcpu_run.proofs.PlainPages.{shown_on}
 use Rattle.vcpu_run.proofs.PlainReady.{all_front}
 use Rattle.vcpu_run.proofs.PlainSays.{none_said}
@@ -44,7 +44,7 @@ reads_leave old new own only = record { own = own'; keeps = keeps }
 
     own' : IsOwnWindow new
     own' = record {
-      values = λ e. ap (λ (values : ℕ → List ℕ). values e) only.values ∙ own.values e;
+      values = λ e. subst (IsOwnEntry e) (sym (ap (λ (values : ℕ → List ℕ). values e) only.values)) (own.values e);
       size = subst (λ n. DATA_START ≤ 4096 * n) (sym (ap (λ place. place.size) only.place)) own.size;
       most = subst (λ n. n ≤ 256) (sym (ap (λ place. place.size) only.place)) own.most;
       there = λ p below. subst IsSome (sym (same p)) (own.there p (subst (λ n. p < n) (ap (λ place. place.size) only.place) below));
@@ -181,6 +181,7 @@ talk_still spared granted at at' words asked answers still talk = record {
   counts = subst (λ (u : Unit). CountsAsked u asked.pending) (sym still.server.unit) talk.counts;
   tables = named_kept spared at.window at'.window still.tables (asked.pending ++ asked.coming)
       (names_rest spared asked.answered (asked.pending ++ asked.coming) (subst (All spared) (sym talk.awaited) still.spares)) talk.tables;
+  starts = subst (λ (s : ClientState). All (StartsAt s.rows) (asked.pending ++ asked.coming)) (sym still.client) talk.starts;
   spared = talk.spared;
   login = record {
     credits = subst (λ (s : ClientState). (s.granted ≡ None) ⊎ (s.granted ≡ Some (min granted 200))) (sym still.client) talk.login.credits;

@@ -1,6 +1,7 @@
 -- The tags of a plain client's rows: the row of the request that is served has a tag of its own, and those of other units do not matter.
-use Rattle.std.proofs.Common.{◌≡◌, ◌≢◌, ◌∙◌, ◌⊎◌, ◌++◌, ◌<◌, ◌≤◌, ◌∷◌, inl, inr, ℕ, zero, suc, All, Bool, true, false, cond, List, [], length, map, refl, sym, ap, ap₂, subst, arith}
+use Rattle.std.proofs.Common.{◌≡◌, ◌≢◌, ◌∙◌, ◌++◌, ◌<◌, ◌≤◌, ◌∷◌, inl, inr, ℕ, All, Bool, true, false, cond, List, [], length, map, refl, sym, ap, subst, arith}
 use Rattle.std.proofs.Math.Logic.{∥∥₁_elim}
+use Rattle.std.proofs.Props.{props}
 use Rattle.std.proofs.lemmas.Bool.Decides.{nat_tests}
 use Rattle.std.proofs.lemmas.List.Elements.{All-cons, All-get_or, All-head, All-nil, All-push, All-tail, filter-append}
 use Rattle.std.proofs.lemmas.List.Quantifiers.{all_pairs_push}
@@ -11,13 +12,13 @@ use Rattle.block_server.specs.Answering.{OnlyRowsOf}
 use Rattle.block_server.specs.Makers.{same_unit}
 use Rattle.block_server.specs.RowsOn.{AddsFor, AddsRowOf, row_tag}
 use Rattle.block_server.specs.declared.request.Request.{Request}
+use Rattle.vcpu_run.specs.PlainBorne.{rows_by}
 use Rattle.vcpu_run.specs.PlainRows.{RequestsRise, TagsKept, tags_by}
-use Rattle.vcpu_run.proofs.Driving.{same_or}
 
-one_same : (a b : UnitId) → a ≡ b → same_unit a b ≡ true
+pub one_same : (a b : UnitId) → a ≡ b → same_unit a b ≡ true
 one_same a b is = grind (arith, nat_tests, is)
 
-same_one : (a b : UnitId) → same_unit a b ≡ true → a ≡ b
+pub same_one : (a b : UnitId) → same_unit a b ≡ true → a ≡ b
 same_one a b is = grind (arith, nat_tests)
 
 map_push : (rows : List Served) (row : Served) → map row_tag (rows ++ row ∷ []) ≡ map row_tag rows ++ row_tag row ∷ []
@@ -65,21 +66,22 @@ tags_served tags last request rest kept = record {
         (All-head (λ (r : Request). request.tag < r.tag) r requests rise))
         (each requests (All-tail (λ (r : Request). request.tag < r.tag) r requests rise) (All-tail (λ (r : Request). All (λ tag. tag < r.tag) tags) r requests below))
 
+pub tags_added : (unit : UnitId) (request : Request) (rows rows' : List Served) → (adds : AddsRowOf unit request rows rows') → tags_by unit rows' ≡ tags_by unit rows ++ request.tag ∷ []
+tags_added unit request rows rows' adds = ap (tags_by unit) adds.added ∙ tags_push unit rows adds.row adds.unit_is ∙ ap (λ tag. tags_by unit rows ++ tag ∷ []) adds.tag_is
+
 pub tags_next : (unit : UnitId) (rows rows' : List Served) (last : ℕ) (request : Request) (rest : List Request) → TagsKept (tags_by unit rows) last (request ∷ rest)
     → AddsFor unit request rows rows' → TagsKept (tags_by unit rows') last rest
 tags_next unit rows rows' last request rest kept (inl adds) =
-    subst (λ tags. TagsKept tags last rest)
-    (sym (ap (tags_by unit) adds.added ∙ tags_push unit rows adds.row adds.unit_is ∙ ap (λ tag. tags_by unit rows ++ tag ∷ []) adds.tag_is))
-    (tags_served (tags_by unit rows) last request rest kept)
+    subst (λ tags. TagsKept tags last rest) (sym (tags_added unit request rows rows' adds)) (tags_served (tags_by unit rows) last request rest kept)
 tags_next unit rows rows' last request rest kept (inr none) =
     subst (λ tags. TagsKept tags last rest) (sym (ap (tags_by unit) none.1)) (tags_fewer (tags_by unit rows) last request rest kept)
 
 -- ---- a turn of another unit
 
-rows_else : (unit other : UnitId) → other ≢ unit → (rows rows' : List Served) → OnlyRowsOf other rows rows' → tags_by unit rows' ≡ tags_by unit rows
+rows_else : (unit other : UnitId) → other ≢ unit → (rows rows' : List Served) → OnlyRowsOf other rows rows' → rows_by unit rows' ≡ rows_by unit rows
 rows_else unit other apart [] [] only = refl
 rows_else unit other apart [] (new ∷ news) only =
-    ap (λ b. map row_tag (cond b (new ∷ filter (λ (r : Served). same_unit r.unit unit) news) (filter (λ (r : Served). same_unit r.unit unit) news)))
+    ap (λ b. cond b (new ∷ filter (λ (r : Served). same_unit r.unit unit) news) (filter (λ (r : Served). same_unit r.unit unit) news))
     (differ unit other apart new (All-head (λ (row : Served). row.unit ≡ other) new news only))
     ∙ rows_else unit other apart [] news (All-tail (λ (row : Served). row.unit ≡ other) new news only)
   where
@@ -92,17 +94,17 @@ rows_else unit other apart [] (new ∷ news) only =
 rows_else unit other apart (row ∷ rows) [] only = absurd only
 rows_else unit other apart (row ∷ rows) (new ∷ news) (inl same, only) = one (rows_else unit other apart rows news only)
   where
-    by : (b : Bool) → tags_by unit news ≡ tags_by unit rows → map row_tag (cond b (row ∷ filter (λ (r : Served). same_unit r.unit unit) news) (filter (λ (r : Served). same_unit r.unit unit) news))
-        ≡ map row_tag (cond b (row ∷ filter (λ (r : Served). same_unit r.unit unit) rows) (filter (λ (r : Served). same_unit r.unit unit) rows))
-    by true rest = ap (λ tags. row_tag row ∷ tags) rest
+    by : (b : Bool) → rows_by unit news ≡ rows_by unit rows → cond b (row ∷ filter (λ (r : Served). same_unit r.unit unit) news) (filter (λ (r : Served). same_unit r.unit unit) news)
+        ≡ cond b (row ∷ filter (λ (r : Served). same_unit r.unit unit) rows) (filter (λ (r : Served). same_unit r.unit unit) rows)
+    by true rest = ap (λ (list : List Served). row ∷ list) rest
     by false rest = rest
 
-    one : tags_by unit news ≡ tags_by unit rows → tags_by unit (new ∷ news) ≡ tags_by unit (row ∷ rows)
-    one rest = ap (λ (r : Served). tags_by unit (r ∷ news)) same ∙ by (same_unit row.unit unit) rest
+    one : rows_by unit news ≡ rows_by unit rows → rows_by unit (new ∷ news) ≡ rows_by unit (row ∷ rows)
+    one rest = ap (λ (r : Served). rows_by unit (r ∷ news)) same ∙ by (same_unit row.unit unit) rest
 rows_else unit other apart (row ∷ rows) (new ∷ news) (inr both, only) =
-    ap (λ b. map row_tag (cond b (new ∷ filter (λ (r : Served). same_unit r.unit unit) news) (filter (λ (r : Served). same_unit r.unit unit) news))) (differ new both.is)
+    ap (λ b. cond b (new ∷ filter (λ (r : Served). same_unit r.unit unit) news) (filter (λ (r : Served). same_unit r.unit unit) news)) (differ new both.is)
     ∙ rows_else unit other apart rows news only
-    ∙ sym (ap (λ b. map row_tag (cond b (row ∷ filter (λ (r : Served). same_unit r.unit unit) rows) (filter (λ (r : Served). same_unit r.unit unit) rows))) (differ row both.was))
+    ∙ sym (ap (λ b. cond b (row ∷ filter (λ (r : Served). same_unit r.unit unit) rows) (filter (λ (r : Served). same_unit r.unit unit) rows)) (differ row both.was))
   where
     differ : (r : Served) → r.unit ≡ other → same_unit r.unit unit ≡ false
     differ r own = by (same_unit r.unit unit) refl
@@ -111,30 +113,12 @@ rows_else unit other apart (row ∷ rows) (new ∷ news) (inr both, only) =
         by true is = absurd (apart (sym own ∙ same_one r.unit unit is))
         by false is = is
 
--- two lists of numbers are the same, or not
-same_tags : (a b : List ℕ) → (a ≡ b) ⊎ (a ≢ b)
-same_tags [] [] = inl refl
-same_tags [] (y ∷ ys) = inr (λ e. cc (e))
-same_tags (x ∷ xs) [] = inr (λ e. cc (e))
-same_tags (x ∷ xs) (y ∷ ys) = by (same_or x y) (same_tags xs ys)
-  where
-    heads : x ∷ xs ≡ y ∷ ys → x ≡ y
-    heads e = cc (e)
+-- that two lists of rows are the same has one proof at most
+same_rows : (a b : List Served) → IsProp (a ≡ b)
+same_rows a b = Prim.hlevel props
 
-    tails : x ∷ xs ≡ y ∷ ys → xs ≡ ys
-    tails e = cc (e)
-
-    by : (x ≡ y) ⊎ (x ≢ y) → (xs ≡ ys) ⊎ (xs ≢ ys) → (x ∷ xs ≡ y ∷ ys) ⊎ (x ∷ xs ≢ y ∷ ys)
-    by (inl one) (inl rest) = inl (ap₂ (λ (z : ℕ) (zs : List ℕ). z ∷ zs) one rest)
-    by (inl one) (inr rest) = inr (λ e. rest (tails e))
-    by (inr one) rest = inr (λ e. one (heads e))
-
-pub tags_else : (unit other : UnitId) (rows rows' : List Served) → other ≢ unit → ∥ OnlyRowsOf other rows rows' ∥₁ → tags_by unit rows' ≡ tags_by unit rows
-tags_else unit other rows rows' apart only = by (same_tags (tags_by unit rows') (tags_by unit rows))
-  where
-    by : (tags_by unit rows' ≡ tags_by unit rows) ⊎ (tags_by unit rows' ≢ tags_by unit rows) → tags_by unit rows' ≡ tags_by unit rows
-    by (inl same) = same
-    by (inr differ) = absurd (∥∥₁_elim only (λ a b. absurd a) (λ rows_only. differ (rows_else unit other apart rows rows' rows_only)))
+pub rows_spared : (unit other : UnitId) (rows rows' : List Served) → other ≢ unit → ∥ OnlyRowsOf other rows rows' ∥₁ → rows_by unit rows' ≡ rows_by unit rows
+rows_spared unit other rows rows' apart only = ∥∥₁_elim only (same_rows (rows_by unit rows') (rows_by unit rows)) (λ kept. rows_else unit other apart rows rows' kept)
 
 -- ---- the client asks for more
 

@@ -15,6 +15,7 @@ use Rattle.vcpu_run.proofs.PlainLists.{answer_plain, last_login, order_tail}
 use Rattle.vcpu_run.proofs.PlainReady.{all_front}
 use Rattle.vcpu_run.proofs.PlainAsks.{answer_to}
 use Rattle.vcpu_run.proofs.PlainServed.{all_kept, all_spared, answers_move}
+use Rattle.vcpu_run.proofs.PlainStarts.{KeepPlaces, starts_behind}
 
 -- the first entry tells of the first answer
 pub answers_head : (window : PortState) (entry : Entry) (entries : List Entry) (asked : List Ask) (answers : List Iu) → HaveAnswers window (entry ∷ entries) asked answers
@@ -34,6 +35,7 @@ pub record TakesHead (at at' : Between) (entry : Entry) (oldest : Outgoing) (oth
   pub before : at.client.outgoing ≡ oldest ∷ others
   pub outgoing : at'.client.outgoing ≡ others
   pub rows : length at'.client.rows ≡ length at.client.rows
+  pub places : KeepPlaces at.client.rows at'.client.rows
   pub handshake : at'.client.handshake ≡ at.client.handshake
   pub due : at'.client.due ≡ at.client.due
   pub held : at'.client.held ≡ at.client.held
@@ -97,6 +99,7 @@ takes_talk granted at at' asked answers entry oldest others talk takes = (
     within = subst (λ (list : List Outgoing). length list ≤ 200) (sym takes.outgoing) (omega (arith, ap length takes.before, talk.within));
     counts = subst (λ (u : Unit). CountsAsked u asked.pending) (sym takes.unit) talk.counts;
     tables = all_kept at.window at'.window (λ one. ⊤) takes.tables (asked.pending ++ asked.coming) (all_spared (asked.pending ++ asked.coming)) talk.tables;
+    starts = starts_behind at.client.rows at'.client.rows takes.places asked.answered (asked.pending ++ asked.coming) talk.tags talk.starts;
     spared = talk.spared;
     login = record {
       credits = subst (λ (known : Option ℕ). (known ≡ None) ⊎ (known ≡ Some (min granted 200))) (sym takes.granted) talk.login.credits;

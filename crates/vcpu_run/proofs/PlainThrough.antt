@@ -11,8 +11,8 @@ use Rattle.boot_text.specs.declared.verb.Verb.TheVariants as verbs
 use Rattle.unit_region.specs.declared.step.Step.{Step}
 use Rattle.unit_region.specs.declared.step.Step.TheVariants as steps
 use Rattle.vcpu_run.specs.Credited.{taken_in}
-use Rattle.vcpu_run.specs.PlainSteps.{AgreeOnCredits, FollowsReplay, HasCome, IsAsReplayed, IsLoggingIn, IsResetting, Own, RestsPlainly, StepsOn, StepsPlainly, beside}
-use Rattle.vcpu_run.specs.PlainTalk.{ServerStays, TalksPlainly}
+use Rattle.vcpu_run.specs.PlainSteps.{AgreeOnCredits, FollowsReplay, HasCome, WasFailed, IsAsReplayed, IsLoggingIn, IsResetting, Own, RestsAs, RestsPlainly, StepsOn, StepsPlainly, beside}
+use Rattle.vcpu_run.specs.PlainTalk.{ServerStays, TalksPlainly, owes}
 use Rattle.vcpu_run.specs.Replay.{Replay, after_line, answered, forgotten}
 use Rattle.vcpu_run.specs.declared.script.Progress.{Progress}
 use Rattle.vcpu_run.specs.declared.script.Progress.TheVariants as progress
@@ -81,9 +81,18 @@ come_through names granted unit unit' server server' (verbs.Tce entry page reada
 come_through names granted unit unit' server server' (verbs.Hcall number arguments) p now own is = follows_through names granted unit unit' server server' now own is
 come_through names granted unit unit' server server' verbs.Fail p now own is = follows_through names granted unit unit' server server' now own is
 
+pub failed_through : (names : List GName) (unit unit' : Unit) (server server' : EndState) (own : Own) → WasFailed (beside unit server own)
+    → WasFailed (beside unit' server' (own_lent names own))
+failed_through names unit unit' server server' own is = record { registered = is.registered; kept = is.kept }
+
+pub ends_through : (names : List GName) (granted : ℕ) (unit unit' : Unit) (server server' : EndState) (now : Replay) (own : Own) → RestsAs granted now (beside unit server own)
+    → RestsAs granted now (beside unit' server' (own_lent names own))
+ends_through names granted unit unit' server server' now own (inl is) = inl (follows_through names granted unit unit' server server' now own is)
+ends_through names granted unit unit' server server' now own (inr is) = inr (failed_through names unit unit' server server' own is)
+
 -- ---- a step through one borrow is one through any
 
-stays_through : (a b : List GName) (unit : Unit) (server server' : EndState) (old new : Own) → ServerStays (beside unit server old) (beside unit server' new)
+pub stays_through : (a b : List GName) (unit : Unit) (server server' : EndState) (old new : Own) → ServerStays (beside unit server old) (beside unit server' new)
     → ServerStays (beside unit server (own_lent a old)) (beside unit server' (own_lent b new))
 stays_through a b unit server server' old new is = record {
   unit = is.unit;
@@ -112,7 +121,7 @@ stays_through a b unit server server' old new is = record {
   };
 }
 
-talks_own : (names : List GName) (granted : ℕ) (unit : Unit) (server : EndState) (own : Own) (words : List Word) → TalksPlainly granted (beside unit server own) words
+pub talks_own : (names : List GName) (granted : ℕ) (unit : Unit) (server : EndState) (own : Own) (words : List Word) → TalksPlainly granted (beside unit server own) words
     → TalksPlainly granted (beside unit server (own_lent names own)) words
 talks_own names granted unit server own words = talks_lent server.place.lenders names granted (beside unit server own) words
 
@@ -125,11 +134,13 @@ replayed_through names granted unit server verb p now own words (steps.Waits did
 pub steps_through : (a b x y : List GName) (verb : Verb) (p p' : Progress) (old new : Own) (result : Result Step NoMemory)
     → StepsPlainly verb p p' (own_lent a old) (own_lent b new) result → StepsPlainly verb p p' (own_lent x old) (own_lent y new) result
 steps_through a b x y verb p p' old new result is plain granted unit server server' now spares stays talks come =
-    ok_more result (StepsOn granted verb p' now (length old.client.rows) (beside unit server' (own_lent b new))) (StepsOn granted verb p' now (length old.client.rows) (beside unit server' (own_lent y new)))
+    ok_more result (StepsOn granted verb p' now (length old.client.rows) (owes (beside unit server old) []) (beside unit server' (own_lent b new)))
+    (StepsOn granted verb p' now (length old.client.rows) (owes (beside unit server old) []) (beside unit server' (own_lent y new)))
     (λ step on. record {
       words = on.words;
       talks = talks_own y granted unit server' (own_lent b new) on.words on.talks;
       anew = on.anew;
+      told = on.told;
       replayed = replayed_through y granted unit server' verb p' now (own_lent b new) on.words step on.replayed;
     })
     (is plain granted unit server server' now spares (stays_through a b unit server server' (own_lent x old) (own_lent y new) stays)
@@ -139,6 +150,6 @@ pub rests_through : (a b x y : List GName) (old new : Own) (result : Result Move
     → RestsPlainly (own_lent x old) (own_lent y new) result
 rests_through a b x y old new result is granted unit server server' now stays talks follows =
     ok_more result _ _
-    (λ moved (talks', later, tag, left). (talks_own y granted unit server' (own_lent b new) [] talks', later, tag, follows_through y granted unit unit server' server' later (own_lent b new) left))
+    (λ moved (talks', later, tag, left). (talks_own y granted unit server' (own_lent b new) [] talks', later, tag, ends_through y granted unit unit server' server' later (own_lent b new) left))
     (is granted unit server server' now (stays_through a b unit server server' (own_lent x old) (own_lent y new) stays)
-    (talks_own a granted unit server (own_lent x old) [] talks) (follows_through a granted unit unit server server now (own_lent x old) follows))
+    (talks_own a granted unit server (own_lent x old) [] talks) (ends_through a granted unit unit server server now (own_lent x old) follows))

@@ -1,14 +1,20 @@
 -- What a gathered trace says of plain clients: each did exactly what its script says.
-use Rattle.std.proofs.Common.{◌≡◌, ◌≢◌, ◌∙◌, inl, inr, ℕ, ◌==◌, true, All, List, [], ◌∷◌, IsSomeAnd, drop, filter, get_or, length, map, slice_get, refl, sym, ap, subst, arith}
+use Rattle.std.proofs.Common.{◌≡◌, ◌≢◌, ◌∙◌, inl, inr, ℕ, ◌≤◌, ◌==◌, true, All, List, [], ◌∷◌, IsSomeAnd, drop, filter, get_or, length, map, slice_get, refl, sym, ap, subst, arith, false, Contains, IfSome, Option, Some, None}
 use Rattle.std.proofs.lemmas.List.{drop_all, get_or-map, length-map}
+use Rattle.std.proofs.lemmas.List.Elements.{All-nil}
 use Rattle.std.specs.List.{AllPairs, flat_map}
+use Rattle.std.specs.Option.{option_map}
 use Rattle.vio_num.specs.declared.entry.Entry.{Entry}
 use Rattle.vio_num.specs.declared.history.Grant.{Grant}
 use Rattle.vio_num.specs.declared.history.Served.{Served}
 use Rattle.vio_num.specs.declared.names.UnitId.{UnitId}
 use Rattle.crq_session.specs.Answered.{received_now, taken_now}
-use Rattle.crq_session.specs.PlainState.{end_of}
+use Rattle.crq_ring.specs.Pipe.{IsLawfulPipe}
+use Rattle.crq_ring.specs.declared.rows.PipeRow.{PipeRow}
+use Rattle.crq_session.specs.PlainState.{end_of, side_of}
 use Rattle.tce_window.specs.PortState.{PortState}
+use Rattle.tce_window.specs.Strokes.{AllWithin}
+use Rattle.tce_window.specs.Window.{strokes_at}
 use Rattle.rdma_copy.specs.declared.copy.CopyRecord.{CopyRecord}
 use Rattle.block_server.specs.Makers.{same_unit}
 use Rattle.block_server.specs.RowsOn.{row_tag}
@@ -21,28 +27,41 @@ use Rattle.boot_text.specs.declared.plan.UnitPlan.TheVariants as units
 use Rattle.lan_script.specs.Units.{LanValue}
 use Rattle.lan_script.specs.declared.rows.LanRows.{LanRows}
 use Rattle.vio_trace.specs.declared.rows.LogRow.{LogRow}
-use Rattle.vcpu_run.specs.Credited.{ended_by}
-use Rattle.vcpu_run.specs.Gathered.{HasLawfulQueue, logs_of, trace_of}
+use Rattle.vcpu_run.specs.Credited.{Ended, ended_by}
+use Rattle.vcpu_run.specs.Gathered.{HasLawfulQueue, HasLawfulWindow, IsLawfulWindow, logs_of, queue_at, trace_of, window_at}
+use Rattle.vcpu_run.specs.LinesShow.{seen_at}
 use Rattle.vcpu_run.specs.Links.{IsEmptied, link_state}
 use Rattle.vcpu_run.specs.Machines.{AreScripts, IsOfPlan, server_id}
-use Rattle.vcpu_run.specs.PlainClients.{HaveOtherTags, IsPlainClient, PlainClientsAreScripted}
+use Rattle.vcpu_run.specs.PlainBorne.{AreBorne, rows_by}
+use Rattle.vcpu_run.specs.PlainClients.{HaveOtherTags, IsPlainClient, PlainClientsAreScripted, granted_in, grants_of, IsDataOfRow}
 use Rattle.vcpu_run.specs.PlainPairs.{EndByClient, IsPlainPair, IsReadyPair, ServerBooks, between_of, books_of}
-use Rattle.vcpu_run.specs.PlainRows.{tags_by}
+use Rattle.vcpu_run.specs.PlainRows.{IsAnswerFor, tags_by}
 use Rattle.vcpu_run.specs.PlainRuns.{ArePlain}
-use Rattle.vcpu_run.specs.PlainScripts.{StandsPlainly}
+use Rattle.vcpu_run.specs.PlainScripts.{StandsPlainly, told_in}
 use Rattle.vcpu_run.specs.Ports.{unit_of}
 use Rattle.vcpu_run.specs.Received.{AreAtRest}
 use Rattle.vcpu_run.specs.Replay.{IsReplayed, before_lines}
 use Rattle.vcpu_run.specs.Scripts.{are_servers}
+use Rattle.vcpu_run.specs.ScriptTold.{AreTold, own_of}
 use Rattle.vcpu_run.specs.Settled.{script_of}
 use Rattle.vcpu_run.specs.Shown.{pages_at}
-use Rattle.vcpu_run.specs.Units.{seats_of}
+use Rattle.vcpu_run.specs.TakenScripts.{IsTaken, PairTaken}
+use Rattle.vcpu_run.specs.Units.{seats_of, unit_seat}
+use Rattle.vcpu_run.specs.declared.driver.Driver.{Driver}
 use Rattle.vcpu_run.specs.declared.pair.Pair.{Pair}
 use Rattle.vcpu_run.specs.declared.script.Script.{Script}
+use Rattle.vcpu_run.specs.declared.unit_seat.Seat.TheVariants as sits
+use Rattle.vcpu_run.specs.declared.unit_seat.UnitSeat.{UnitSeat}
 use Rattle.vcpu_run.proofs.Driving.{some_is}
+use Rattle.vcpu_run.proofs.Following.{each_from_all}
 use Rattle.vcpu_run.proofs.Listed.{held}
+use Rattle.vcpu_run.proofs.Parts.{IsIn, each_in}
+use Rattle.vcpu_run.proofs.PlainDataBorne.{bear_all}
+use Rattle.vcpu_run.proofs.PlainDataTold.{data_of_rows}
+use Rattle.vcpu_run.proofs.PlainSums.{BearAll}
 use Rattle.vcpu_run.proofs.RecordLaws.{lines_in}
 use Rattle.vcpu_run.proofs.RefusalsTold.{client_pages, own_records}
+use Rattle.vcpu_run.proofs.Seated.{planned_in}
 use Rattle.vcpu_run.proofs.Settling.{emptied, script_at, servers_home}
 
 -- ---- no two rows of the server unit have one tag
@@ -71,41 +90,92 @@ emptied_come pair empty =
 
 -- ---- its logins and its rows
 
--- What a pair has of its server unit: the logins end by the client alone, and no two rows have one tag.
-record HasBooks (unit : UnitId) (lines : List Grant) (rows : List Served) : Type 0 where
+-- What a pair has of its server unit: no fewer logins were granted than its client was told of, they end by the client alone, and no two rows
+-- have one tag.
+record HasBooks (told : ℕ) (unit : UnitId) (lines : List Grant) (rows : List Served) : Type 0 where
+  granted : told ≤ grants_of unit lines
   ends : EndByClient unit lines
   tags : AllPairs HaveOtherTags (filter (λ row. same_unit row.unit unit) rows)
 
-books_plain : (granted home k : ℕ) (books : ServerBooks) (words : List Word) (pair : Pair) → IsEmptied (link_state pair.link).server → IsPlainPair granted home books k words pair
-    → HasBooks (server_id home k) books.lines books.rows
-books_plain granted home k books words pair empty is =
+books_plain : (granted told home k : ℕ) (books : ServerBooks) (words : List Word) (pair : Pair) → IsEmptied (link_state pair.link).server → IsPlainPair granted told home books k words pair
+    → HasBooks told (server_id home k) books.lines books.rows
+books_plain granted told home k books words pair empty is =
     let none : words ≡ [] = no_words (between_of is.unit is.driver pair).window (to_come (end_of [] pair.link true)) words (emptied_come pair empty) is.talks.calm.said in
     let heard : HearsAll (talk_of is.unit) (length (taken_now (end_of [] pair.link true))) words (talk_of is.unit) =
     subst (λ (list : List Word). HearsAll (talk_of is.unit) (length (taken_now (end_of [] pair.link true))) list (talk_of is.unit)) (sym none) refl in
-    record { ends = is.lines; tags = tags_apart (filter (λ (row : Served). same_unit row.unit (server_id home k)) books.rows) (is.tags (talk_of is.unit) heard).apart }
+    record { granted = omega (arith, is.owed); ends = is.lines; tags = tags_apart (filter (λ (row : Served). same_unit row.unit (server_id home k)) books.rows) (is.tags (talk_of is.unit) heard).apart }
 
-books_ready : (granted home k : ℕ) (books : ServerBooks) (pair : Pair) → IsEmptied (link_state pair.link).server → IsReadyPair granted home books k pair
-    → HasBooks (server_id home k) books.lines books.rows
-books_ready granted home k books pair empty (inl (words, is)) = books_plain granted home k books words pair empty is
-books_ready granted home k books pair empty (inr new) = record {
+books_ready : (granted told home k : ℕ) (books : ServerBooks) (pair : Pair) → IsEmptied (link_state pair.link).server → IsReadyPair granted told home books k pair
+    → HasBooks told (server_id home k) books.lines books.rows
+books_ready granted told home k books pair empty (inl (words, is)) = books_plain granted told home k books words pair empty is
+books_ready granted told home k books pair empty (inr new) = record {
+  granted = new.owed;
   ends = new.lines;
   tags = tags_apart (filter (λ (row : Served). same_unit row.unit (server_id home k)) books.rows) (none_apart (tags_by (server_id home k) books.rows) new.tags);
 }
 
+-- ---- what was put into the client's queue, and what its lines say of data
+
+-- The pair has a client; what was put into its queue as an answer to a command with data-in has a row of this unit; no two of those rows have one tag;
+-- and what the unit laid behind the slots bears data-in of them.
+record HasAnswersFor (unit : UnitId) (rows : List Served) (pair : Pair) : Type 0 where
+  driver : Driver
+  driver_is : pair.driver ≡ Some driver
+  put : All (λ (row : PipeRow). IsAnswerFor (tags_by unit rows) driver.client.rows row.entry) (side_of pair.link false).queue.sent
+  apart : AllPairs (λ a b. a ≢ b) (tags_by unit rows)
+  borne : AreBorne (rows_by unit rows) unit driver.client.rows (strokes_at pair.window.pages)
+
+answers_ready : (granted told home k : ℕ) (books : ServerBooks) (pair : Pair) → IsEmptied (link_state pair.link).server → IsReadyPair granted told home books k pair
+    → HasAnswersFor (server_id home k) books.rows pair
+answers_ready granted told home k books pair empty (inl (words, is)) =
+    let none : words ≡ [] = no_words (between_of is.unit is.driver pair).window (to_come (end_of [] pair.link true)) words (emptied_come pair empty) is.talks.calm.said in
+    let heard : HearsAll (talk_of is.unit) (length (taken_now (end_of [] pair.link true))) words (talk_of is.unit) =
+    subst (λ (list : List Word). HearsAll (talk_of is.unit) (length (taken_now (end_of [] pair.link true))) list (talk_of is.unit)) (sym none) refl in
+    record {
+      driver = is.driver;
+      driver_is = is.driver_is;
+      put = (is.answers (talk_of is.unit) heard).put;
+      apart = (is.tags (talk_of is.unit) heard).apart;
+      borne = is.borne;
+    }
+answers_ready granted told home k books pair empty (inr new) = record {
+  driver = new.driver;
+  driver_is = new.driver_is;
+  put = subst (All (λ (row : PipeRow). IsAnswerFor (tags_by (server_id home k) books.rows) new.driver.client.rows row.entry)) (sym new.sent)
+      (All-nil (λ (row : PipeRow). IsAnswerFor (tags_by (server_id home k) books.rows) new.driver.client.rows row.entry));
+  apart = none_apart (tags_by (server_id home k) books.rows) new.tags;
+  borne = new.borne;
+}
+
+taken_at : (own : List Ended) (pair : Pair) (o : Option Driver) (driver : Driver) → o ≡ Some driver → IfSome o (IsTaken own pair) → IsTaken own pair driver
+taken_at own pair None driver is taken = absurd (cc (is))
+taken_at own pair (Some other) driver is taken = subst (IsTaken own pair) (some_is other driver is) taken
+
+data_told : (unit : UnitId) (rows : List Served) (own : List Ended) (pair : Pair) (granted pages : ℕ) → pair.server ≡ unit → AllWithin (strokes_at pair.window.pages)
+    → IsLawfulPipe (side_of pair.link false).queue → HasAnswersFor unit rows pair → PairTaken own pair → IsReplayed granted pages before_lines own → (e : Ended) → Contains own e
+    → IsDataOfRow rows unit e
+data_told unit rows own pair granted pages same within laws has taken replayed =
+    let is : IsTaken own pair has.driver = taken_at own pair pair.driver has.driver has.driver_is taken in
+    data_of_rows (seen_at pair) pair.server has.driver.client has.driver.answers.items (side_of pair.link false).queue own rows unit granted pages
+    (record { laws = laws; order = is.given.order; kept = is.kept; reads = is.reads }) has.put replayed
+    (λ tag len range row inward behind there tag_is. subst (λ (id : UnitId). BearAll (seen_at pair) (record { who = id; mark = tag }) range row.inn) (sym same)
+    (bear_all pair unit (rows_by unit rows) has.driver.client.rows tag len range row (record { within = within; apart = has.apart; borne = has.borne }) there tag_is inward behind))
+
 -- ---- the trace
 
 pub scripted_are : (pairs : List Pair) (scripts : List Script) (lan : LanValue) (lan_rows : LanRows) (history : List Served) (grants : List Grant) (copies : List CopyRecord) (partitions : List Partition)
-    → AreScripts pairs lan.seats scripts → All (HasLawfulQueue pairs) (seats_of scripts) → IsOfPlan partitions pairs scripts lan.seats → AreAtRest copies grants history pairs scripts
-    → (granted home : ℕ) (list : List Unit) → ArePlain granted home (books_of list grants history) pairs scripts
+    → AreScripts pairs lan.seats scripts → All (HasLawfulQueue pairs) (seats_of scripts) → All (HasLawfulWindow pairs lan) (seats_of scripts) → IsOfPlan partitions pairs scripts lan.seats → AreTold pairs scripts
+    → AreAtRest copies grants history pairs scripts → (granted home : ℕ) (list : List Unit) → ArePlain granted home (books_of list grants history) pairs scripts
     → PlainClientsAreScripted granted partitions (trace_of pairs scripts lan lan_rows history grants copies)
-scripted_are pairs scripts lan lan_rows history grants copies partitions are lawful of_plan rests granted home list plain client server is plainly =
+scripted_are pairs scripts lan lan_rows history grants copies partitions are lawful windows of_plan told rests granted home list plain client server is plainly =
     let p = client.partition in
     let at = script_at partitions pairs scripts lan.seats client (units.Client server is.0 is.1) of_plan is.2 in
     let script = at.0 in
     let own = are p script at.1 in
     let serves : IsServer partitions server = of_plan.sound.served client server is in
     let lines : script_of partitions p ≡ script.lines.now = lines_in (slice_get partitions p) script (of_plan.scripts_are.each p script at.1) in
-    let stands = plain p client.unit server.unit script at.1 (record { sits = at.2; plain = subst (IsPlainClient client.unit) lines plainly }) in
+    let plain_lines : IsPlainClient client.unit script.lines.now = subst (IsPlainClient client.unit) lines plainly in
+    let stands = plain p client.unit server.unit script at.1 (record { sits = at.2; plain = plain_lines }) in
     let has : Pair → Type 0 = λ pair. IsSomeAnd pair.driver (λ driver. driver.unit ≡ unit_of script.partition client.unit) in
     let pair = held has (slice_get pairs server.unit) (own.script_is.seats client.unit server.unit at.2) in
     let size : pages_at partitions (unit_of script.partition client.unit) ≡ length pair.0.window.pages =
@@ -117,18 +187,37 @@ scripted_are pairs scripts lan lan_rows history grants copies partitions are law
     let home_at = held (λ (s : Script). are_servers s.seats.items ≡ true) (slice_get scripts home) stands.behind.servers in
     let home_is : home ≡ server.partition = servers_home partitions pairs scripts lan.seats server home home_at.0 of_plan serves home_at.1 home_at.2 in
     let name : server_id home server.unit ≡ server = ap (λ n. unit_of n server.unit) home_is in
-    let ready = held (IsReadyPair granted home (books_of list grants history) server.unit) (slice_get pairs server.unit) stands.ready in
+    let ready = held (IsReadyPair granted (told_in client.unit script) home (books_of list grants history) server.unit) (slice_get pairs server.unit) stands.ready in
     let there = held (λ (pair : Pair). pair.server ≡ server) (slice_get pairs server.unit) (of_plan.pairs_are.servers server serves) in
     let same : ready.0.server ≡ server = ap (λ (x : Pair). x.server) (some_is ready.0 there.0 (sym ready.1 ∙ there.1)) ∙ there.2 in
     let empty = emptied rests.units pairs scripts lan.seats partitions server ready.0 are lawful of_plan rests.idle serves ready.1 same in
-    let books : HasBooks server grants history =
-    subst (λ (unit : UnitId). HasBooks unit grants history) name (books_ready granted home server.unit (books_of list grants history) ready.0 empty.0 ready.2) in
+    let books : HasBooks (told_in client.unit script) server grants history =
+    subst (λ (unit : UnitId). HasBooks (told_in client.unit script) unit grants history) name
+    (books_ready granted (told_in client.unit script) home server.unit (books_of list grants history) ready.0 empty.0 ready.2) in
+    let seat : UnitSeat = unit_seat client.partition client.unit (sits.Client server.unit) in
+    let inside : IsIn seat (seats_of scripts) = planned_in partitions pairs scripts lan.seats client (units.Client server is.0 is.1) are of_plan is.2 in
+    let queue : queue_at pairs seat ≡ Some (side_of ready.0.link false).queue = ap (option_map (λ (pair : Pair). (side_of pair.link false).queue)) ready.1 in
+    let laws : IsLawfulPipe (side_of ready.0.link false).queue =
+    subst (λ slot. IfSome slot IsLawfulPipe) queue (each_in (HasLawfulQueue pairs) seat (seats_of scripts) inside (each_from_all (HasLawfulQueue pairs) (seats_of scripts) lawful)) in
+    let window : window_at pairs lan seat ≡ Some ready.0.window = ap (option_map (λ (pair : Pair). pair.window)) ready.1 in
+    let law : IsLawfulWindow ready.0.window =
+    subst (λ slot. IfSome slot IsLawfulWindow) window (each_in (HasLawfulWindow pairs lan) seat (seats_of scripts) inside (each_from_all (HasLawfulWindow pairs lan) (seats_of scripts) windows)).lawful in
+    let taken : PairTaken (own_of client.unit script) ready.0 =
+    (told p script at.1 (record { others = stands.others; no_call = plain_lines.no_call })).taken.kept client.unit server.unit ready.0 at.2 ready.1 in
+    let answers : HasAnswersFor server history ready.0 =
+    subst (λ (unit : UnitId). HasAnswersFor unit history ready.0) name (answers_ready granted (told_in client.unit script) home server.unit (books_of list grants history) ready.0 empty.0 ready.2) in
     record {
       records = subst (λ n. IsReplayed granted n before_lines (ended_by client.unit (script_of partitions p) (filter (λ (row : LogRow). row.partition == p) (flat_map logs_of scripts)))) (sym pages)
           (subst (λ (ls : List Line). IsReplayed granted (length pair.0.window.pages) before_lines (ended_by client.unit ls (filter (λ (row : LogRow). row.partition == p) (flat_map logs_of scripts)))) (sym lines)
           (subst (λ (rows : List LogRow). IsReplayed granted (length pair.0.window.pages) before_lines (ended_by client.unit script.lines.now rows)) (sym (own_records pairs scripts lan p script are at.1)) replayed));
+      granted = subst (λ (ls : List Line). granted_in (ended_by client.unit ls (filter (λ (row : LogRow). row.partition == p) (flat_map logs_of scripts))) ≤ grants_of server grants) (sym lines)
+          (subst (λ (rows : List LogRow). granted_in (ended_by client.unit script.lines.now rows) ≤ grants_of server grants) (sym (own_records pairs scripts lan p script are at.1))
+          books.granted);
       logins = books.ends;
       tags = books.tags;
+      reads = subst (λ (ls : List Line). (e : Ended) → Contains (ended_by client.unit ls (filter (λ (row : LogRow). row.partition == p) (flat_map logs_of scripts))) e → IsDataOfRow history server e) (sym lines)
+          (subst (λ (rows : List LogRow). (e : Ended) → Contains (ended_by client.unit script.lines.now rows) e → IsDataOfRow history server e) (sym (own_records pairs scripts lan p script are at.1))
+          (data_told server history (own_of client.unit script) ready.0 granted (length pair.0.window.pages) same law.within laws answers taken replayed));
     }
 
 -- ---- the same books, pairs and scripts

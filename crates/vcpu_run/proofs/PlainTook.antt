@@ -10,7 +10,7 @@ use Rattle.srp_iu.specs.declared.unit.Iu.{Iu}
 use Rattle.tce_window.specs.PortState.{OnlyReads, PortState}
 use Rattle.block_server.specs.Talk.{to_come}
 use Rattle.vscsi_client.specs.State.{ClientState}
-use Rattle.vscsi_client.specs.Taking.{Judges, PollsEmpty, TakesAs, TakesEntry, TakesNone, row_answered, taken_by, without_tag}
+use Rattle.vscsi_client.specs.Taking.{Judges, PollsEmpty, TakesAs, TakesEntry, TakesNone, row_answered, taken_by, without_tag, answered}
 use Rattle.vscsi_client.specs.declared.answers.Taken.{Taken}
 use Rattle.vscsi_client.specs.declared.answers.Taken.TheVariants.{Again, Answer, Empty, Lost, Other, Stray}
 use Rattle.vscsi_client.specs.declared.outgoing.Outgoing.{Outgoing}
@@ -21,6 +21,7 @@ use Rattle.vcpu_run.specs.PlainTalk.{Ask, AskedParts, Between, HasAnswer, HaveAn
 use Rattle.vcpu_run.proofs.PlainJudged.{HoldsResponse, TellsOldest, is_answer}
 use Rattle.vcpu_run.proofs.PlainPuts.{LeavesWindow}
 use Rattle.vcpu_run.proofs.PlainSlots.{keeps_same}
+use Rattle.vcpu_run.proofs.PlainStarts.{answered_places}
 use Rattle.vcpu_run.proofs.PlainStill.{StandsStill, all_true, reads_data, reads_leave, talk_still}
 use Rattle.vcpu_run.proofs.PlainTakes.{TakesHead, takes_talk}
 use Rattle.vcpu_run.proofs.PlainTaking.{Oldest, empty_come, next_entries, oldest_is}
@@ -161,6 +162,8 @@ took_one granted at at' asked answers taken calm talk idle takes only reads stay
       outgoing = ap (λ (s : ClientState). s.outgoing) client ∙ ap (without_tag first.tag) before ∙ without_first first.tag first.oldest first.others first.tells.tag_is;
       rows = ap (λ (s : ClientState). length s.rows) client ∙ length-set takes.kept.rows (first.tag - 1) (row_answered answer.0 (slice_index_or takes.kept.rows (first.tag - 1) rows.Login))
           ∙ ap (λ (s : ClientState). length s.rows) takes.fetched.client;
+      places = answered_places at.client.rows at'.client.rows first.tag answer.0
+          (ap (λ (s : ClientState). s.rows) client ∙ ap (λ (s : ClientState). answered first.tag answer.0 s.rows) takes.fetched.client);
       handshake = ap (λ (s : ClientState). s.handshake) client ∙ ap (λ (s : ClientState). s.handshake) takes.fetched.client;
       due = ap (λ (s : ClientState). s.due) client ∙ ap (λ (s : ClientState). s.due) takes.fetched.client;
       held = ap (λ (s : ClientState). s.held) client ∙ ap (λ (s : ClientState). s.held) takes.fetched.client;

@@ -15,7 +15,7 @@ use Rattle.block_server.specs.Talk.{HearsAll, Talk, Word, order_asked, talk_of}
 use Rattle.block_server.specs.Talk.Word.{asks, begins, gone}
 use Rattle.block_server.specs.declared.request.Request.{Request}
 use Rattle.vscsi_client.specs.declared.TheConstants.{DATA_START}
-use Rattle.vcpu_run.specs.PlainTalk.{AgreeOnLogin, AskedParts, Between, GoesBehind, InPhase, IsAway, IsBeginning, IsCalm, IsOwnWindow, IsTalking, TalksPlainly}
+use Rattle.vcpu_run.specs.PlainTalk.{AgreeOnLogin, AskedParts, Between, GoesBehind, InPhase, IsAway, IsBeginning, IsCalm, IsOwnEntry, IsOwnWindow, IsTalking, TalksPlainly}
 use Rattle.vcpu_run.proofs.PlainLeaves.{lays_own}
 use Rattle.vcpu_run.proofs.PlainTurns.{Turns}
 
@@ -115,6 +115,7 @@ talk_lent names owns granted at words asked answers talk = record {
   within = talk.within;
   counts = talk.counts;
   tables = talk.tables;
+  starts = talk.starts;
   spared = talk.spared;
   login = agree_lent names owns granted at asked answers talk.login;
 }
@@ -133,7 +134,7 @@ same_own : (old new : PortState) → IsOwnWindow old → new.place ≡ old.place
 same_own old new own place same =
     let known = held (known_in new) (known_in old) same in
     record {
-      values = λ e. ap (λ (k : Known). k.values e) known ∙ own.values e;
+      values = λ e. subst (IsOwnEntry e) (sym (ap (λ (k : Known). k.values e) known)) (own.values e);
       size = subst (λ n. DATA_START ≤ 4096 * n) (sym (ap (λ place. place.size) place)) own.size;
       most = subst (λ n. n ≤ 256) (sym (ap (λ place. place.size) place)) own.most;
       there = λ p below. subst IsSome (sym (ap (λ (k : Known). k.strokes p) known)) (own.there p (subst (λ n. p < n) (ap (λ place. place.size) place) below));

@@ -1,7 +1,9 @@
 -- A turn of a script, its first and its last lines, and a line that waited and was ended: as plain clients see them.
-use Rattle.std.proofs.Common.{◌≡◌, ◌≢◌, ◌∙◌, ◌⊎◌, inl, inr, ℕ, ◌+◌, ◌≤◌, ◌==◌, ◌++◌, Bool, true, false, true≢false, List, [], ◌∷◌, Option, Some, None, IfSome, IsSomeAnd, is_some, length, refl, slice_get, sym, ap, subst, arith, eqb-true}
+use Rattle.std.proofs.Common.{◌≡◌, ◌≢◌, ◌∙◌, ◌⊎◌, inl, inr, ℕ, ◌+◌, ◌≤◌, ◌==◌, ◌++◌, ◌&&◌, All, not, Bool, true, false, true≢false, List, [], ◌∷◌, Option, Some, None, IfSome, IsSomeAnd, is_some, length, refl, slice_get, sym, ap, subst, arith, eqb-true}
 use Rattle.boot_text.specs.declared.plan.Line.{Line}
 use Rattle.boot_text.specs.declared.verb.Verb.{Verb}
+use Rattle.vio_num.specs.Entry.{is_srp_entry}
+use Rattle.vio_num.specs.declared.entry.Entry.{Entry}
 use Rattle.vio_num.specs.declared.names.UnitId.{UnitId}
 use Rattle.vio_trace.specs.declared.outcome.Outcome.{Outcome}
 use Rattle.vio_trace.specs.declared.rows.LogRow.{LogRow}
@@ -11,12 +13,15 @@ use Rattle.block_server.specs.declared.unit.Unit.{Unit}
 use Rattle.vscsi_client.specs.State.{ClientState, new_client}
 use Rattle.vcpu_run.specs.Credited.{Ended, ended_by}
 use Rattle.vcpu_run.specs.Pairs.{AreDriven}
-use Rattle.vcpu_run.specs.PlainScripts.{AllRestPlainly, AllTalkOn, IsPlainSeat, NoneAwaits, OfUnit, PairAsks, PairIs, PairTalks, QuietsPlainly, StandsAt, StandsPlainly, StandsPlainlyAt, TurnedPlainly, TurnsPlainly, after_ended, awaits, rows_in}
+use Rattle.vcpu_run.specs.PlainClients.{granted_in}
+use Rattle.vcpu_run.specs.PlainScripts.{AllRestPlainly, AllTalkOn, EndsPlainly, IsPlainSeat, OfUnit, PairAsks, PairIs, PairTalks, QuietsPlainly, StandsAt, StandsPlainly, StandsPlainlyAt, TurnedPlainly, TurnsPlainly, after_ended, awaits, owes_at, owes_to, rows_in, told_in}
 use Rattle.vcpu_run.specs.PlainPairs.{between_of}
-use Rattle.vcpu_run.specs.PlainSteps.{AreReplayedAs, FollowsReplay, HasCome}
+use Rattle.vcpu_run.specs.PlainSteps.{AreReplayedAs, FollowsReplay, HasCome, RestsAs, WasFailed}
+use Rattle.vcpu_run.specs.PlainTalk.{Between, TalksPlainly}
 use Rattle.vcpu_run.specs.Replay.{IsReplayed, Replay, before_lines}
 use Rattle.vcpu_run.specs.Scripts.{AreSeats}
 use Rattle.vcpu_run.specs.ScriptTold.{SameClient, SameClients}
+use Rattle.vcpu_run.specs.TakenScripts.{AllGive}
 use Rattle.vcpu_run.specs.Works.{fails}
 use Rattle.vcpu_run.specs.declared.driver.Driver.{Driver}
 use Rattle.vcpu_run.specs.declared.pair.Pair.{Pair}
@@ -24,32 +29,49 @@ use Rattle.vcpu_run.specs.declared.script.Progress.{Progress}
 use Rattle.vcpu_run.specs.declared.script.Progress.TheVariants as progress
 use Rattle.vcpu_run.specs.declared.script.Script.{Script}
 use Rattle.vcpu_run.proofs.Crediting.{here_or}
+use Rattle.vcpu_run.proofs.DataNoted.{keep_clients, keep_gives, keep_on}
 use Rattle.vcpu_run.proofs.Driving.{some_is}
 use Rattle.vcpu_run.proofs.Listed.{held, held_is, is_held}
-use Rattle.vcpu_run.proofs.Logging.{all_at}
 use Rattle.vcpu_run.proofs.PlainAsking.{follows_still}
 use Rattle.vcpu_run.proofs.PlainReplayed.{come_still}
-use Rattle.vcpu_run.proofs.PlainScripted.{anew_at, other_ends, pair_still, stands_next}
+use Rattle.vcpu_run.proofs.PlainOwed.{idle_owes, one_if, owes_none}
+use Rattle.vcpu_run.proofs.PlainScripted.{anew_at, ended_other, other_ends, owed_at, pair_still, stands_next}
 use Rattle.vcpu_run.proofs.ScriptsTold.{EndsWaiting, of_login, of_reset, of_take}
 use Rattle.vcpu_run.proofs.SeatPairs.{after_of, before_of}
 
 -- ---- behind the last line
 
+-- a client between two lines is owed nothing, nor is one whose partition failed
+rests_owe : (granted : ℕ) (unit : Unit) (now : Replay) (pair : Pair) → PairTalks granted unit [] pair → PairIs (RestsAs granted now) pair → owes_at unit [] pair ≡ 0
+rests_owe granted unit now pair talks follows = by pair.driver talks follows
+  where
+    at : (driver : Driver) → TalksPlainly granted (between_of unit driver pair) [] → RestsAs granted now (between_of unit driver pair) → owes_to unit [] (Some driver) pair ≡ 0
+    at driver h (inl f) = idle_owes granted (between_of unit driver pair) [] h f.login
+    at driver h (inr f) = owes_none (between_of unit driver pair) [] (inl f.registered)
+
+    by : (o : Option Driver) → IsSomeAnd o (λ driver. TalksPlainly granted (between_of unit driver pair) []) → IsSomeAnd o (λ driver. (other : Unit) → RestsAs granted now (between_of other driver pair))
+        → owes_to unit [] o pair ≡ 0
+    by None h f = refl
+    by (Some driver) h f = at driver h (f unit)
+
 pub rests_plainly : (old new : List Pair) (script : Script) → slice_get script.lines.now script.at ≡ None → AreSeats script.partition script.seats.items old → AreDriven old new
-    → AllRestPlainly old new → TurnsPlainly old new script script
-rests_plainly old new script over are driven rests granted u k unit seat talks stood =
+    → AllRestPlainly old new → AllGive old new → TurnsPlainly old new script script
+rests_plainly old new script over are driven rests gives granted u k unit seat talks stood =
     let was = held (PairTalks granted unit []) (slice_get old k) talks in
     let stands : StandsPlainly granted u script was.0 = held_is (StandsPlainly granted u script) (slice_get old k) was.0 was.1 stood in
     let after = after_of script.partition u k script.seats.items old new are driven seat.sits in
     let b = before_of script.partition u k script.seats.items old new after.0 are driven seat.sits after.1 in
     let pages : length after.0.window.pages ≡ length was.0.window.pages = b.pages ∙ ap (λ (pair : Pair). length pair.window.pages) (some_is b.pair was.0 (sym b.there ∙ was.1)) in
-    let follows : (later : Replay) × PairIs (FollowsReplay granted later) was.0 =
+    let follows : (later : Replay) × PairIs (RestsAs granted later) was.0 =
     subst (λ (o : Option Line). StandsAt granted u o script.progress (after_ended granted (length was.0.window.pages) before_lines (ended_by u script.lines.now script.logs.items)) was.0) over stands.stands in
     let later = rests k was.0 after.0 was.1 after.1 granted unit follows.0 was.2 follows.1 in
     record {
       words = [];
+      owed = owed_at k (told_in u script) (told_in u script) unit old new was.0 after.0 [] was.1 after.1
+          (omega (arith, rests_owe granted unit later.2 after.0 later.0 later.3));
       talks = is_held (PairTalks granted unit []) (slice_get new k) after.0 after.1 later.0;
       anew = anew_at k old new was.0 after.0 [] was.1 after.1 later.1;
+      keeps = keep_gives old new gives;
       stands = is_held (StandsPlainly granted u script) (slice_get new k) after.0 after.1 (record {
         replayed = subst (λ n. IsReplayed granted n before_lines (ended_by u script.lines.now script.logs.items)) (sym pages) stands.replayed;
         stands = subst (λ (o : Option Line). StandsAt granted u o script.progress (after_ended granted (length after.0.window.pages) before_lines (ended_by u script.lines.now script.logs.items)) after.0) (sym over)
@@ -61,19 +83,13 @@ pub rests_quietly : (old new : List Pair) (script : Script) → slice_get script
 rests_quietly old new script over granted u k unit seat talks stood idle =
     subst (λ (o : Option Line). IfSome o (λ line. line.unit ≡ u → awaits line.verb ≡ false)) (sym over) tt
 
--- ---- a line that fails its partition is none of a plain client's
-
-never_fails : (script : Script) (line : Line) (u k : ℕ) → slice_get script.lines.now script.at ≡ Some line → fails line.verb ≡ true → IsPlainSeat script u k → ⊥
-never_fails script line u k found failing seat =
-    true≢false (sym failing ∙ all_at (λ (l : Line). fails l.verb ≡ false) script.lines.now script.at line found seat.plain.no_failure)
-
-pub fails_plainly : (old new : List Pair) (script done : Script) (line : Line) → slice_get script.lines.now script.at ≡ Some line → fails line.verb ≡ true → TurnsPlainly old new script done
-fails_plainly old new script done line found failing granted u k unit seat talks stood = absurd (never_fails script line u k found failing seat)
-
-pub fails_quietly : (old new : List Pair) (script done : Script) (line : Line) → slice_get script.lines.now script.at ≡ Some line → fails line.verb ≡ true → QuietsPlainly old new script done
-fails_quietly old new script done line found failing granted u k unit seat talks stood idle = absurd (never_fails script line u k found failing seat)
-
 -- ---- the client is as it was
+
+was_still : (at at' : Between) → at'.client ≡ at.client → at'.own.registered ≡ at.own.registered → WasFailed at → WasFailed at'
+was_still at at' client registered is = record {
+  registered = registered ∙ is.registered;
+  kept = subst (λ (s : ClientState). All (λ (entry : Entry). is_srp_entry entry ≡ true) s.kept) (sym client) is.kept;
+}
 
 stands_still : (granted u : ℕ) (script : Script) (before after : Pair) → after.driver ≡ before.driver → length after.window.pages ≡ length before.window.pages
     → (side_of after.link false).registered ≡ (side_of before.link false).registered → StandsPlainly granted u script before → StandsPlainly granted u script after
@@ -86,9 +102,20 @@ stands_still granted u script before after driver pages queue stood = record {
     follows : (now : Replay) → PairIs (FollowsReplay granted now) before → PairIs (FollowsReplay granted now) after
     follows now = pair_still (FollowsReplay granted now) before after (λ at at' client registered f. follows_still granted now at at' f client registered) driver queue
 
+    failed : PairIs WasFailed before → PairIs WasFailed after
+    failed = pair_still WasFailed before after (λ at at' client registered f. was_still at at' client registered f) driver queue
+
+    rests : (later : Replay) → PairIs (RestsAs granted later) before → PairIs (RestsAs granted later) after
+    rests later = pair_still (RestsAs granted later) before after (λ at at' client registered f. still later at at' client registered f) driver queue
+      where
+        still : (later : Replay) (at at' : Between) → at'.client ≡ at.client → at'.own.registered ≡ at.own.registered → RestsAs granted later at → RestsAs granted later at'
+        still later at at' client registered (inl f) = inl (follows_still granted later at at' f client registered)
+        still later at at' client registered (inr f) = inr (was_still at at' client registered f)
+
     by : (o : Option Line) (now : Replay) → StandsAt granted u o script.progress now before → StandsAt granted u o script.progress now after
-    by None now is = (is.0, follows is.0 is.1)
-    by (Some line) now is = at (line.unit == u) is
+    by None now is = (is.0, rests is.0 is.1)
+    by (Some line) now (inr is) = inr (is.0, failed is.1)
+    by (Some line) now (inl is) = inl (at (line.unit == u) is)
       where
         at : (b : Bool) → OfUnit b (PairIs (HasCome granted line.verb script.progress now) before) (PairIs (FollowsReplay granted now) before)
             → OfUnit b (PairIs (HasCome granted line.verb script.progress now) after) (PairIs (FollowsReplay granted now) after)
@@ -121,6 +148,7 @@ record Pushed (granted u k : ℕ) (unit : Unit) (script : Script) (old mid : Lis
   talks : IsSomeAnd (slice_get mid k) (PairTalks granted unit [])
   stands : StandsPlainlyAt granted u k mid script
   rows : (before middle : Pair) → slice_get old k ≡ Some before → slice_get mid k ≡ Some middle → rows_in middle.driver ≡ rows_in before.driver
+  owes : (before middle : Pair) → slice_get old k ≡ Some before → slice_get mid k ≡ Some middle → owes_at unit [] middle ≡ owes_at unit [] before
   after : (middle : Pair) × (slice_get mid k ≡ Some middle)
 
 pushed : (granted u k : ℕ) (unit : Unit) (script : Script) (old mid : List Pair) → AreSeats script.partition script.seats.items old → AreDriven old mid → SameClients old mid → AllTalkOn old mid
@@ -132,6 +160,7 @@ pushed granted u k unit script old mid are driven same on seat talks stood =
       talks = is_held (PairTalks granted unit []) (slice_get mid k) after.0 after.1 (on k was.0 after.0 was.1 after.1 granted unit was.2);
       stands = clients_stand granted u k old mid script (λ none. absurd (both (slice_get mid k) none after.1)) same stood;
       rows = λ before middle there here. rows_at before middle (slice_get old k) there (same k middle here);
+      owes = λ before middle there here. owes_same before middle (slice_get old k) there (same k middle here);
       after = after;
     }
   where
@@ -142,6 +171,15 @@ pushed granted u k unit script old mid are driven same on seat talks stood =
     rows_at before middle None there h = absurd h
     rows_at before middle (Some b) there h = ap rows_in h.driver ∙ ap (λ (pair : Pair). rows_in pair.driver) (some_is b before there)
 
+    owed_of : (a b : Pair) → SameClient a b → (o : Option Driver) → owes_to unit [] o b ≡ owes_to unit [] o a
+    owed_of a b is None = refl
+    owed_of a b is (Some driver) = ap (λ there. one_if (there && (not (is_some driver.client.granted) && (unit.logins.taking && not false)))) is.queue
+
+    owes_same : (before middle : Pair) (o : Option Pair) → o ≡ Some before → IsSomeAnd o (λ b. SameClient b middle) → owes_at unit [] middle ≡ owes_at unit [] before
+    owes_same before middle None there h = absurd h
+    owes_same before middle (Some b) there h =
+        ap (λ (o : Option Driver). owes_to unit [] o middle) h.driver ∙ owed_of b middle h b.driver ∙ ap (owes_at unit []) (some_is b before there)
+
 pub pushes_plainly : (old mid new : List Pair) (script later : Script) → AreSeats script.partition script.seats.items old → AreDriven old mid → SameClients old mid → AllTalkOn old mid
     → TurnsPlainly mid new script later → TurnsPlainly old new script later
 pushes_plainly old mid new script later are driven same on turns granted u k unit seat talks stood =
@@ -151,6 +189,8 @@ pushes_plainly old mid new script later are driven same on turns granted u k uni
       words = turned.words;
       talks = turned.talks;
       anew = λ before after there here. subst (λ n. PairAsks n turned.words after) (p.rows before p.after.0 there p.after.1) (turned.anew p.after.0 after p.after.1 here);
+      owed = λ before after there here. omega (arith, p.owes before p.after.0 there p.after.1, turned.owed p.after.0 after p.after.1 here);
+      keeps = keep_on old mid new driven (keep_clients old mid same) turned.keeps;
       stands = turned.stands;
     }
 
@@ -163,12 +203,19 @@ pushes_quietly old mid new script later are driven same on quiets granted u k un
 
 pub waiting_ends : (granted u k : ℕ) (pairs : List Pair) (script done : Script) (line : Line) (row : LogRow) → slice_get script.lines.now script.at ≡ Some line
     → length script.logs.items ≡ script.at → EndsWaiting script.progress line.verb row.outcome → done.lines ≡ script.lines → done.logs.items ≡ script.logs.items ++ row ∷ []
-    → done.progress ≡ progress.Fresh → NoneAwaits u script → StandsPlainlyAt granted u k pairs script → StandsPlainlyAt granted u k pairs done
+    → done.progress ≡ progress.Fresh → EndsPlainly granted u k pairs script done
 waiting_ends granted u k pairs script done line row found many ends lines logs fresh none stood =
-    let was = held (StandsPlainly granted u script) (slice_get pairs k) stood in
-    is_held (StandsPlainly granted u done) (slice_get pairs k) was.0 was.1
-    (other_ends granted u script done line row was.0 found many lines logs fresh (other (here_or line.unit u)) was.2)
+    let was = held (StandsPlainly granted u script) (slice_get pairs k) stood in (
+      is_held (StandsPlainly granted u done) (slice_get pairs k) was.0 was.1
+          (other_ends granted u script done line row was.0 found (goes ends) many lines logs fresh (other (here_or line.unit u)) was.2),
+      ap granted_in (ended_other u script done line row found many lines logs (other (here_or line.unit u))),
+    )
   where
+    goes : EndsWaiting script.progress line.verb row.outcome → fails line.verb ≡ false
+    goes (of_login verb outcome) = ap fails verb
+    goes (of_reset verb outcome) = ap fails verb
+    goes (of_take count verb outcome) = ap fails verb
+
     awaited : EndsWaiting script.progress line.verb row.outcome → awaits line.verb ≡ true
     awaited (of_login verb outcome) = ap awaits verb
     awaited (of_reset verb outcome) = ap awaits verb
@@ -202,7 +249,7 @@ new_follows granted pair driver id server is client off =
     not_waiting : Down ≡ Waiting → ⊥
     not_waiting e = cc (e)
 
-none_ended : (u : ℕ) (lines : List Line) → ended_by u lines [] ≡ []
+pub none_ended : (u : ℕ) (lines : List Line) → ended_by u lines [] ≡ []
 none_ended u [] = refl
 none_ended u (line ∷ lines) = refl
 

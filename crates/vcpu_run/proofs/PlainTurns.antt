@@ -224,14 +224,14 @@ away_so at at' words away stays vacant = record {
 }
 
 -- it heard that the client is gone
-gone_vacant : (unit middle : Unit) (n : ℕ) → HearsAll (talk_of unit) n (gone ∷ []) (talk_of middle) → IsVacant middle
+pub gone_vacant : (unit middle : Unit) (n : ℕ) → HearsAll (talk_of unit) n (gone ∷ []) (talk_of middle) → IsVacant middle
 gone_vacant unit middle n (between, one, all) = record {
   current = ap (λ (t : Talk). t.current) all ∙ one.loses.current;
   taking = ap (λ (t : Talk). t.taking) all ∙ one.loses.taking;
   pending = ap (λ (t : Talk). t.pending) all ∙ one.loses.pending;
 }
 
-none_vacant : (unit middle : Unit) (n : ℕ) → HearsAll (talk_of unit) n [] (talk_of middle) → IsVacant unit → IsVacant middle
+pub none_vacant : (unit middle : Unit) (n : ℕ) → HearsAll (talk_of unit) n [] (talk_of middle) → IsVacant unit → IsVacant middle
 none_vacant unit middle n all vacant = record {
   current = ap (λ (t : Talk). t.current) all ∙ vacant.current;
   taking = ap (λ (t : Talk). t.taking) all ∙ vacant.taking;
@@ -239,7 +239,7 @@ none_vacant unit middle n all vacant = record {
 }
 
 -- the words are these
-hears_these : (unit middle : Unit) (n : ℕ) (words these : List Word) → words ≡ these → HearsAll (talk_of unit) n words (talk_of middle) → HearsAll (talk_of unit) n these (talk_of middle)
+pub hears_these : (unit middle : Unit) (n : ℕ) (words these : List Word) → words ≡ these → HearsAll (talk_of unit) n words (talk_of middle) → HearsAll (talk_of unit) n these (talk_of middle)
 hears_these unit middle n words these same = subst (λ (list : List Word). HearsAll (talk_of unit) n list (talk_of middle)) same
 
 -- a unit that is vacant serves nothing
@@ -263,7 +263,7 @@ away_behind at at' lines lines' words away turn stays = by away.heard
 
 -- ---- the client begins
 
-begins_up : (unit middle : Unit) (n : ℕ) → HearsAll (talk_of unit) n (begins ∷ []) (talk_of middle) → talk_of middle ≡ record (talk_of unit) { handshake = Up }
+pub begins_up : (unit middle : Unit) (n : ℕ) → HearsAll (talk_of unit) n (begins ∷ []) (talk_of middle) → talk_of middle ≡ record (talk_of unit) { handshake = Up }
 begins_up unit middle n (between, one, all) = all ∙ one
 
 begun_so : (at at' : Between) (words : List Word) → IsBeginning at words → ClientStays at at' → IsVacant at'.unit → at'.unit.line.handshake ≡ Up

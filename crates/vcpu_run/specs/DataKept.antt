@@ -1,5 +1,5 @@
 -- What a client keeps of the data of its commands: where they lie, as the lines say that sent them, and how much of them its answers leave.
-use Rattle.std.specs.Prelude.{◌≡◌, ℕ, ◌*◌, ◌≤◌, true, List, Option, Some, None, IfSome, ⊤}
+use Rattle.std.specs.Prelude.{◌≡◌, ℕ, ◌*◌, ◌≤◌, true, List, Option, Some, None, IfSome, length, ⊤}
 use Rattle.std.specs.List.{Contains}
 use Rattle.srp_iu.specs.Grammar.{Canon}
 use Rattle.srp_iu.specs.declared.response.Rsp.{Rsp as Response}
@@ -20,7 +20,7 @@ use Rattle.unit_region.specs.declared.step.Step.{Step}
 use Rattle.unit_region.specs.declared.step.Step.TheVariants as steps
 use Rattle.vcpu_run.specs.AnswersTaken.{has_tag}
 use Rattle.vcpu_run.specs.Credited.{Ended}
-use Rattle.vcpu_run.specs.TagRows.{row_at}
+use Rattle.vcpu_run.specs.TagRows.{is_inward, row_at}
 
 -- what a response says of its command's data-in
 abbrev pub said_by : Response → DataIn
@@ -47,8 +47,11 @@ IsInwardAt rs tag at len = (said : Option DataIn) × (row_at rs tag ≡ rows.Com
 abbrev pub AreAsked : List Outgoing → Type 0
 AreAsked outgoing = (tag : ℕ) → has_tag tag (tags_of outgoing) ≡ true → 1 ≤ tag
 
--- A step of a client whose tags are so leaves the data of each command where they are, and has noted what it knows of them.
+-- A step of a client whose tags are so leaves the data of each command where they are, and has noted what it knows of them; what it asked for
+-- before is no command with data-in if it was none.
 pub record KeepsData (s s' : ClientState) (answers answers' : List AnswerRow) : Type 0 where
+  pub more : length s.rows ≤ length s'.rows
+  pub kinds : AreAsked s.outgoing → (tag : ℕ) → tag ≤ length s.rows → is_inward (row_at s'.rows tag) ≡ true → is_inward (row_at s.rows tag) ≡ true
   pub asked : AreAsked s.outgoing → AreAsked s'.outgoing
   pub rows_stay : AreAsked s.outgoing → (tag at len : ℕ) → IsInwardAt s.rows tag at len → IsInwardAt s'.rows tag at len
   pub noted : AreAsked s.outgoing → AreNoted s.rows answers → AreNoted s'.rows answers'

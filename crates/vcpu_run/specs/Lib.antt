@@ -52,6 +52,7 @@ pub mod NotedOn
 pub mod Numbered
 pub mod OnDisk
 pub mod Pairs
+pub mod PlainBorne
 pub mod PlainClients
 pub mod PlainPairs
 pub mod PlainRows

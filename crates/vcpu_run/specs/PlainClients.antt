@@ -1,6 +1,7 @@
 -- Plain clients do exactly what their script says: which clients are plain, and what the trace of a run on one thread says of them.
-use Rattle.std.specs.Prelude.{◌≡◌, ◌≢◌, ℕ, ◌==◌, nat_le, Bool, true, false, List, [], ◌∷◌, All, filter, length}
-use Rattle.std.specs.List.{AllPairs, flat_map, list_all}
+use Rattle.std.specs.Prelude.{◌≡◌, ◌≢◌, ◌≤◌, ℕ, ◌==◌, ◌&&◌, nat_le, Bool, true, false, List, [], ◌∷◌, All, filter, length, take, IfSome, ⊤, ◌*◌, ◌||◌}
+use Rattle.std.specs.List.{AllPairs, flat_map, list_all, sum, Contains}
+use Rattle.vio_num.specs.declared.TheConstants.{PAGE_BYTES}
 use Rattle.vio_num.specs.declared.history.Grant.{Grant}
 use Rattle.vio_num.specs.declared.history.Grant.TheVariants.{Granted, Lapsed}
 use Rattle.vio_num.specs.declared.history.Lapse.{Lapse}
@@ -15,14 +16,16 @@ use Rattle.boot_text.specs.declared.plan.Line.{Line}
 use Rattle.boot_text.specs.declared.plan.Partition.{Partition}
 use Rattle.boot_text.specs.declared.verb.Verb.{Verb}
 use Rattle.boot_text.specs.declared.verb.Verb.TheVariants as verbs
+use Rattle.vio_trace.specs.declared.outcome.Outcome.{Outcome}
+use Rattle.vio_trace.specs.declared.outcome.Outcome.TheVariants as outcomes
 use Rattle.vio_trace.specs.declared.rows.Trace.{Trace}
 use Rattle.vscsi_client.specs.declared.TheConstants.{DATA_START}
-use Rattle.vcpu_run.specs.Credited.{ended_by}
+use Rattle.vcpu_run.specs.Credited.{Ended, ended_by, grants}
+use Rattle.vcpu_run.specs.DataRead.{given_by}
 use Rattle.vcpu_run.specs.PortWords.{HasNoCall}
 use Rattle.vcpu_run.specs.Replay.{IsReplayed, Range, any_share, before_lines, range, table_range}
 use Rattle.vcpu_run.specs.Settled.{script_of}
 use Rattle.vcpu_run.specs.Shown.{pages_at, records_of}
-use Rattle.vcpu_run.specs.Works.{fails}
 
 -- the table of a line's command
 abbrev pub tables_of : Verb → List Range
@@ -38,10 +41,10 @@ written_by (verbs.Fill at len seed) = range at len ∷ []
 written_by (verbs.Poke at bytes) = range at (length bytes) ∷ []
 written_by _ = []
 
--- whether a line puts a value into an entry of the unit's window
-abbrev pub is_entry : Verb → Bool
-is_entry (verbs.Tce entry page readable writable) = true
-is_entry _ = false
+-- whether a value that a line puts into an entry of its window names the entry's own page, and has all rights if that is one of the driver's
+abbrev pub keeps_own : Verb → Bool
+keeps_own (verbs.Tce entry page readable writable) = page == entry && (nat_le DATA_START (PAGE_BYTES * entry) || (readable && writable))
+keeps_own _ = true
 
 -- the lines of a unit, and their tables
 abbrev pub lines_of : (unit : ℕ) → List Line → List Line
@@ -54,12 +57,12 @@ tables_in lines = flat_map (λ line. tables_of line.verb) lines
 abbrev pub lie_behind : List Range → Bool
 lie_behind ranges = list_all (λ r. nat_le DATA_START r.at) ranges
 
--- A client unit is plain where no line of its partition makes a raw hypervisor call or fails the partition, and no line of its own
--- puts a value into an entry, or writes in the pages that are the driver's or on a page of a table of its lines.
+-- A client unit is plain where no line of its partition makes a raw hypervisor call; no line of its own writes in the pages that are the
+-- driver's, or on a page of a table of its lines; and what its own put into entries keeps each its own page, and those of the driver's
+-- pages all rights. (A line may fail the partition.)
 pub record IsPlainClient (unit : ℕ) (lines : List Line) : Type 0 where
   pub no_call : HasNoCall lines
-  pub no_failure : All (λ line. fails line.verb ≡ false) lines
-  pub no_entry : All (λ line. is_entry line.verb ≡ false) (lines_of unit lines)
+  pub own_entries : All (λ line. keeps_own line.verb ≡ true) (lines_of unit lines)
   pub behind : All (λ line. lie_behind (written_by line.verb) ≡ true) (lines_of unit lines)
   pub no_table : All (λ line. any_share (written_by line.verb) (tables_in (lines_of unit lines)) ≡ false) (lines_of unit lines)
 
@@ -77,13 +80,52 @@ ends_by_client (Lapsed unit session login cause outstanding granted) = is_client
 abbrev pub HaveOtherTags : Served → Served → Type 0
 HaveOtherTags a b = field 8 8 a.iu ≢ field 8 8 b.iu
 
--- A client's records are those of the replay of its lines; of its server unit each login ends by its client alone, and no two rows
--- have one tag. (That no line of it ends as unanswered follows: the replay of a login says otherwise.)
+-- how many of these lines ended as a login that was granted
+abbrev pub granted_in : List Ended → ℕ
+granted_in ended = length (filter (λ e. grants e.outcome) ended)
+
+-- how many of these lines say that a login of this unit was granted
+abbrev pub grants_login : Grant → Bool
+grants_login (Granted unit session login number credits) = true
+grants_login (Lapsed unit session login cause outstanding granted) = false
+
+abbrev pub grants_of : UnitId → List Grant → ℕ
+grants_of unit lines = length (filter (λ line. same_unit (unit_of line) unit && grants_login line) lines)
+
+-- what a record says of data-in: how many of the first bytes, of all that there are, and their sum
+abbrev pub SumsUp : (inn : List ℕ) → Outcome → Type 0
+SumsUp inn (outcomes.Data len total) = (len ≤ length inn) × (total ≡ sum (take len inn))
+SumsUp inn outcome = ⊤
+
+-- A row of the server unit has this tag, and what is said of data is so of its data-in.
+pub record HasRowOf (rows : List Served) (server : UnitId) (tag : ℕ) (outcome : Outcome) : Type 0 where
+  pub row : Served
+  pub there : Contains rows row
+  pub of_unit : row.unit ≡ server
+  pub tag_is : field 8 8 row.iu ≡ tag
+  pub says : SumsUp row.inn outcome
+
+-- whether a record gives the data of a tag, or says that a page of them is stale
+abbrev pub tells_data : Outcome → Bool
+tells_data (outcomes.Data len total) = true
+tells_data (outcomes.Stale page) = true
+tells_data outcome = false
+
+-- a line does so only of the tag and of the data-in of a row
+abbrev pub IsDataOfRow : (rows : List Served) → (server : UnitId) → Ended → Type 0
+IsDataOfRow rows server e = IfSome (given_by e.verb) (λ tag. tells_data e.outcome ≡ true → HasRowOf rows server tag e.outcome)
+
+-- A client's records are those of the replay of its lines, and say no more often that a login was granted than the lines on its server unit's
+-- logins do; of that unit each login ends by its client alone, and no two rows have one tag. (That no line of it ends as unanswered follows: the
+-- replay of a login says otherwise.) And of what its lines say of the data of commands each tag is that of such a row, and the sum that of the first of
+-- its data-in.
 pub record IsAsScripted (grant : ℕ) (partitions : List Partition) (trace : Trace) (server client : UnitId) : Type 0 where
   pub records : IsReplayed grant (pages_at partitions client) before_lines
       (ended_by client.unit (script_of partitions client.partition) (records_of trace client.partition))
+  pub granted : granted_in (ended_by client.unit (script_of partitions client.partition) (records_of trace client.partition)) ≤ grants_of server trace.grants
   pub logins : All (λ grant. same_unit (unit_of grant) server ≡ true → ends_by_client grant ≡ true) trace.grants
   pub tags : AllPairs HaveOtherTags (filter (λ row. same_unit row.unit server) trace.serves)
+  pub reads : (e : Ended) → Contains (ended_by client.unit (script_of partitions client.partition) (records_of trace client.partition)) e → IsDataOfRow trace.serves server e
 
 -- Each plain client of the plan's partitions is as scripted, where a login grants so many requests.
 abbrev pub PlainClientsAreScripted : (grant : ℕ) → List Partition → Trace → Type 0

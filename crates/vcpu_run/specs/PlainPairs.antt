@@ -1,8 +1,9 @@
 -- What is so of a plain client and its server unit at their pair, between turns.
-use Rattle.std.specs.Prelude.{◌≡◌, ◌⊎◌, ℕ, ◌≤◌, true, false, All, List, [], Some, None, IfSome, IsSomeAnd, length, slice_get}
+use Rattle.std.specs.Prelude.{◌≡◌, ◌≢◌, ◌⊎◌, ℕ, ◌+◌, ◌≤◌, true, false, All, List, [], Option, Some, None, IfSome, IsSomeAnd, length, slice_get}
 use Rattle.vio_num.specs.declared.history.Grant.{Grant}
 use Rattle.vio_num.specs.declared.history.Served.{Served}
 use Rattle.vio_num.specs.declared.names.UnitId.{UnitId}
+use Rattle.page_slots.specs.Stroke.{StrokeValue}
 use Rattle.crq_session.specs.Answered.{taken_now}
 use Rattle.crq_session.specs.PlainState.{end_of, side_of}
 use Rattle.tce_window.specs.PlainPort.{known_of}
@@ -14,9 +15,10 @@ use Rattle.vscsi_client.specs.State.{new_client}
 use Rattle.vcpu_run.specs.declared.driver.Driver.{Driver}
 use Rattle.vcpu_run.specs.declared.pair.Pair.{Pair}
 use Rattle.vcpu_run.specs.Machines.{server_id}
-use Rattle.vcpu_run.specs.PlainClients.{ends_by_client}
-use Rattle.vcpu_run.specs.PlainRows.{TagsKept, tags_by}
-use Rattle.vcpu_run.specs.PlainTalk.{AreEnds, Between, IsOwnWindow, TalksPlainly}
+use Rattle.vcpu_run.specs.PlainBorne.{AreBorne, rows_by}
+use Rattle.vcpu_run.specs.PlainClients.{ends_by_client, grants_of}
+use Rattle.vcpu_run.specs.PlainRows.{TagsKept, tags_by, AnswersKept}
+use Rattle.vcpu_run.specs.PlainTalk.{AreEnds, Between, IsOwnWindow, TalksPlainly, owes}
 
 -- a server unit, its client's driver and what lies between them
 abbrev pub between_of : Unit → Driver → Pair → Between
@@ -42,17 +44,24 @@ abbrev pub EndByClient : UnitId → List Grant → Type 0
 EndByClient unit lines = All (λ line. same_unit (unit_of line) unit ≡ true → ends_by_client line ≡ true) lines
 
 -- Server unit k and the client of its pair talk plainly, these words are to come, its logins end by the client alone, and no two of its
--- rows have one tag, nor will have with those that are pending once the words are heard.
-pub record IsPlainPair (granted home : ℕ) (books : ServerBooks) (k : ℕ) (words : List Word) (pair : Pair) : Type 0 where
+-- rows have one tag, nor will have with those that are pending once the words are heard. The client was told of so many logins that were
+-- granted: with the one that it is owed there are no more than the lines say. What was put into the client's queue as an answer to a command with
+-- data-in has a row; and what the server unit laid behind the slots of the client's window bears data-in of its rows.
+pub record IsPlainPair (granted told home : ℕ) (books : ServerBooks) (k : ℕ) (words : List Word) (pair : Pair) : Type 0 where
   pub unit : Unit
   pub there : slice_get books.units k ≡ Some unit
   pub id : unit.id ≡ server_id home k
   pub driver : Driver
   pub driver_is : pair.driver ≡ Some driver
   pub talks : TalksPlainly granted (between_of unit driver pair) words
+  pub owed : told + owes (between_of unit driver pair) words ≤ grants_of (server_id home k) books.lines
   pub lines : EndByClient (server_id home k) books.lines
   pub tags : (talk : Talk) → HearsAll (talk_of unit) (length (taken_now (end_of [] pair.link true))) words talk
       → TagsKept (tags_by (server_id home k) books.rows) (length driver.client.rows) talk.pending
+  pub answers : (talk : Talk) → HearsAll (talk_of unit) (length (taken_now (end_of [] pair.link true))) words talk
+      → AnswersKept (tags_by (server_id home k) books.rows) driver.client (end_of [] pair.link true).sent talk.pending
+  pub apart : pair.window.unit ≢ server_id home k
+  pub borne : AreBorne (rows_by (server_id home k) books.rows) (server_id home k) driver.client.rows (known_of pair.window).strokes
 
 -- Before the first turn: neither queue is registered, the client has done nothing, and the server unit is as it was made, to grant so many
 -- requests; the queues have room; and the window is as it was opened.
@@ -68,18 +77,26 @@ pub record IsNewBetween (granted : ℕ) (at : Between) : Type 0 where
   pub own_slots : 256 ≤ at.own.place.own_slots
   pub usable : IsOwnWindow at.window
 
-pub record IsNewPair (granted home : ℕ) (books : ServerBooks) (k : ℕ) (pair : Pair) : Type 0 where
+pub record IsNewPair (granted told home : ℕ) (books : ServerBooks) (k : ℕ) (pair : Pair) : Type 0 where
   pub unit : Unit
   pub there : slice_get books.units k ≡ Some unit
   pub id : unit.id ≡ server_id home k
   pub driver : Driver
   pub driver_is : pair.driver ≡ Some driver
   pub new : IsNewBetween granted (between_of unit driver pair)
+  pub owed : told ≤ grants_of (server_id home k) books.lines
   pub lines : EndByClient (server_id home k) books.lines
   pub tags : tags_by (server_id home k) books.rows ≡ []
+  pub sent : (end_of [] pair.link true).sent ≡ []
+  pub apart : pair.window.unit ≢ server_id home k
+  pub borne : AreBorne (rows_by (server_id home k) books.rows) (server_id home k) driver.client.rows (known_of pair.window).strokes
+
+-- no stroke lies on these pages
+abbrev pub AreBlank : (strokes : ℕ → Option (List StrokeValue)) → Type 0
+AreBlank strokes = (page : ℕ) (list : List StrokeValue) → strokes page ≡ Some list → list ≡ []
 
 -- A pair as it is opened, where this driver is its client's: neither queue is registered, no event is kept, the client has done nothing,
--- the queues have room, and the client's window is its own.
+-- the queues have room, and the client's window is its own, with no stroke on it.
 pub record IsOpened (pair : Pair) (driver : Driver) : Type 0 where
   pub server : UnitId
   pub client : driver.client ≡ new_client driver.unit server
@@ -88,9 +105,12 @@ pub record IsOpened (pair : Pair) (driver : Driver) : Type 0 where
   pub server_registered : (side_of pair.link true).registered ≡ false
   pub server_kept : (side_of pair.link true).kept ≡ None
   pub ends : AreEnds (end_of [] pair.link true) (end_of [] pair.link false)
+  pub sent : (end_of [] pair.link true).sent ≡ []
   pub server_slots : 256 ≤ (side_of pair.link true).queue.slots
   pub own_slots : 256 ≤ (side_of pair.link false).queue.slots
   pub usable : IsOwnWindow (known_of pair.window)
+  pub unit : pair.window.unit ≡ driver.unit
+  pub blank : AreBlank (known_of pair.window).strokes
 
 -- so is a pair that has a client
 abbrev pub OpensPlainly : Pair → Type 0
@@ -100,12 +120,12 @@ abbrev pub OpenPlainly : List Pair → Type 0
 OpenPlainly pairs = (k : ℕ) (pair : Pair) → slice_get pairs k ≡ Some pair → OpensPlainly pair
 
 -- Such a pair before its server unit's turn, which may be the first.
-abbrev pub IsReadyPair : (granted home : ℕ) → ServerBooks → (k : ℕ) → Pair → Type 0
-IsReadyPair granted home books k pair = ((words : List Word) × IsPlainPair granted home books k words pair) ⊎ IsNewPair granted home books k pair
+abbrev pub IsReadyPair : (granted told home : ℕ) → ServerBooks → (k : ℕ) → Pair → Type 0
+IsReadyPair granted told home books k pair = ((words : List Word) × IsPlainPair granted told home books k words pair) ⊎ IsNewPair granted told home books k pair
 
 -- What a turn of server unit k leaves of its pair: if it was such a pair, it is one, and nothing is to come.
 abbrev pub ServesPlainly : (home : ℕ) → (books books' : ServerBooks) → (k : ℕ) → (old new : Pair) → Type 0
-ServesPlainly home books books' k old new = (granted : ℕ) → IsReadyPair granted home books k old → IsPlainPair granted home books' k [] new
+ServesPlainly home books books' k old new = (granted told : ℕ) → IsReadyPair granted told home books k old → IsPlainPair granted told home books' k [] new
 
 -- Nothing is pending in unit k.
 abbrev pub IsIdleUnit : (k : ℕ) → ServerBooks → Type 0
@@ -113,26 +133,27 @@ IsIdleUnit k books = IsSomeAnd (slice_get books.units k) (λ unit. unit.pending.
 
 -- A turn in which it did nothing leaves nothing that is pending.
 abbrev pub IdlesPlainly : (home : ℕ) → (books books' : ServerBooks) → (k : ℕ) → (old : Pair) → Type 0
-IdlesPlainly home books books' k old = (granted : ℕ) → IsReadyPair granted home books k old → IsIdleUnit k books'
+IdlesPlainly home books books' k old = (granted told : ℕ) → IsReadyPair granted told home books k old → IsIdleUnit k books'
 
--- Turns of other server units leave unit k and the tags of its rows as they are, and no line that they add says that one of its logins ended
--- otherwise.
+-- Turns of other server units leave unit k and its rows as they are, no line that they add says that one of its logins ended
+-- otherwise, and no line is gone that says that one was granted.
 pub record SparesUnit (home : ℕ) (books books' : ServerBooks) (k : ℕ) : Type 0 where
   pub same : slice_get books'.units k ≡ slice_get books.units k
   pub lines : EndByClient (server_id home k) books.lines → EndByClient (server_id home k) books'.lines
-  pub tags : tags_by (server_id home k) books'.rows ≡ tags_by (server_id home k) books.rows
+  pub grants : grants_of (server_id home k) books.lines ≤ grants_of (server_id home k) books'.lines
+  pub rows : rows_by (server_id home k) books'.rows ≡ rows_by (server_id home k) books.rows
 
 -- the pair of server unit k is such a pair, also before its turn
-abbrev pub IsPlainAt : (granted home : ℕ) → ServerBooks → (k : ℕ) → List Word → List Pair → Type 0
-IsPlainAt granted home books k words pairs = IsSomeAnd (slice_get pairs k) (IsPlainPair granted home books k words)
+abbrev pub IsPlainAt : (granted told home : ℕ) → ServerBooks → (k : ℕ) → List Word → List Pair → Type 0
+IsPlainAt granted told home books k words pairs = IsSomeAnd (slice_get pairs k) (IsPlainPair granted told home books k words)
 
-abbrev pub IsReadyAt : (granted home : ℕ) → ServerBooks → (k : ℕ) → List Pair → Type 0
-IsReadyAt granted home books k pairs = IsSomeAnd (slice_get pairs k) (IsReadyPair granted home books k)
+abbrev pub IsReadyAt : (granted told home : ℕ) → ServerBooks → (k : ℕ) → List Pair → Type 0
+IsReadyAt granted told home books k pairs = IsSomeAnd (slice_get pairs k) (IsReadyPair granted told home books k)
 
 -- what turns of server units, one of which is unit k's, leave of its pair
 abbrev pub ServesPlainlyAt : (home : ℕ) → (books books' : ServerBooks) → (old new : List Pair) → (k : ℕ) → Type 0
-ServesPlainlyAt home books books' old new k = (granted : ℕ) → IsReadyAt granted home books k old → IsPlainAt granted home books' k [] new
+ServesPlainlyAt home books books' old new k = (granted told : ℕ) → IsReadyAt granted told home books k old → IsPlainAt granted told home books' k [] new
 
 -- and of its unit, where they did nothing
 abbrev pub IdlesPlainlyAt : (home : ℕ) → (books books' : ServerBooks) → (old : List Pair) → (k : ℕ) → Type 0
-IdlesPlainlyAt home books books' old k = (granted : ℕ) → IsReadyAt granted home books k old → IsIdleUnit k books'
+IdlesPlainlyAt home books books' old k = (granted told : ℕ) → IsReadyAt granted told home books k old → IsIdleUnit k books'

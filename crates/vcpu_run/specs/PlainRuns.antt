@@ -1,7 +1,7 @@
 -- Plain clients in a run, between the turns of a round: each talks plainly with its server unit, and stands in its script as the replay of its lines says.
 use Rattle.std.specs.Prelude.{◌≡◌, ℕ, ◌<◌, ◌≤◌, true, false, IsSomeAnd, List, [], Some, slice_get}
 use Rattle.vcpu_run.specs.PlainPairs.{IsIdleUnit, IsPlainAt, IsReadyAt, ServerBooks}
-use Rattle.vcpu_run.specs.PlainScripts.{IsPlainSeat, NoneAwaits, StandsPlainlyAt}
+use Rattle.vcpu_run.specs.PlainScripts.{IsPlainSeat, NoneAwaits, StandsPlainlyAt, told_in}
 use Rattle.vcpu_run.specs.Scripts.{are_servers}
 use Rattle.vcpu_run.specs.declared.pair.Pair.{Pair}
 use Rattle.vcpu_run.specs.declared.script.Script.{Script}
@@ -20,8 +20,8 @@ pub record ComesBehind (home i : ℕ) (scripts : List Script) : Type 0 where
 pub record StandsInRound (granted home n : ℕ) (books : ServerBooks) (pairs : List Pair) (scripts : List Script) (i u k : ℕ) (script : Script) : Type 0 where
   pub behind : ComesBehind home i scripts
   pub others : are_servers script.seats.items ≡ false
-  pub ready : IsReadyAt granted home books k pairs
-  pub served : home < n → n ≤ i → IsPlainAt granted home books k [] pairs
+  pub ready : IsReadyAt granted (told_in u script) home books k pairs
+  pub served : home < n → n ≤ i → IsPlainAt granted (told_in u script) home books k [] pairs
   pub stands : StandsPlainlyAt granted u k pairs script
 
 abbrev pub ArePlainTo : (granted home n : ℕ) → ServerBooks → List Pair → List Script → Type 0

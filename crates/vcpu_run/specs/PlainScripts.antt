@@ -1,5 +1,5 @@
 -- Plain clients at their pairs and in their scripts: how far the lines of each came, as the replay of them says, between turns.
-use Rattle.std.specs.Prelude.{◌≡◌, ◌≢◌, ◌⊎◌, ℕ, Bool, true, false, All, IfOk, IfSome, IsSomeAnd, List, [], ◌∷◌, OnOk, Option, Some, None, Result, length, slice_get, ◌==◌}
+use Rattle.std.specs.Prelude.{◌≡◌, ◌≢◌, ◌⊎◌, ◌+◌, ◌≤◌, ℕ, Bool, true, false, All, IfOk, IfSome, IsSomeAnd, List, [], ◌∷◌, OnOk, Option, Some, None, Result, length, slice_get, ◌==◌}
 use Rattle.vio_num.specs.declared.hypervisor.Moved.TheVariants.{Quiet}
 use Rattle.vio_num.specs.declared.memory.NoMemory.{NoMemory}
 use Rattle.boot_text.specs.declared.plan.Line.{Line}
@@ -10,14 +10,17 @@ use Rattle.crq_session.specs.PlainState.{side_of}
 use Rattle.unit_region.specs.declared.step.Step.{Step}
 use Rattle.unit_region.specs.declared.step.Step.TheVariants as steps
 use Rattle.block_server.specs.Talk.{Word}
+use Rattle.block_server.specs.Talk.Word.{gone}
 use Rattle.block_server.specs.declared.unit.Unit.{Unit}
 use Rattle.vscsi_client.specs.State.{new_client}
 use Rattle.vcpu_run.specs.Credited.{Ended, ended_by}
-use Rattle.vcpu_run.specs.PlainClients.{IsPlainClient}
+use Rattle.vcpu_run.specs.PlainClients.{IsPlainClient, granted_in}
+use Rattle.vcpu_run.specs.NotedOn.{AllKeepNoted}
 use Rattle.vcpu_run.specs.PlainPairs.{between_of}
-use Rattle.vcpu_run.specs.PlainSteps.{AsksAnew, FollowsReplay, HasCome, IsPlainVerb, SparesTables}
-use Rattle.vcpu_run.specs.PlainTalk.{Between, TalksPlainly}
+use Rattle.vcpu_run.specs.PlainSteps.{AsksAnew, FollowsReplay, HasCome, WasFailed, IsPlainVerb, RestsAs, SparesTables, granted_by}
+use Rattle.vcpu_run.specs.PlainTalk.{Between, TalksPlainly, owes}
 use Rattle.vcpu_run.specs.Replay.{IsReplayed, Replay, after_line, before_lines, ends_as}
+use Rattle.vcpu_run.specs.Works.{fails}
 use Rattle.vcpu_run.specs.declared.driver.Driver.{Driver}
 use Rattle.vcpu_run.specs.declared.pair.Pair.{Pair}
 use Rattle.vcpu_run.specs.declared.script.Progress.{Progress}
@@ -59,22 +62,44 @@ rows_in (Some driver) = length driver.client.rows
 abbrev pub PairAsks : (last : ℕ) → List Word → Pair → Type 0
 PairAsks last words pair = IsSomeAnd pair.driver (λ driver. AsksAnew last driver.client words)
 
-pub record PairSteppedOn (granted : ℕ) (unit : Unit) (verb : Verb) (p : Progress) (now : Replay) (last : ℕ) (pair : Pair) (step : Step) : Type 0 where
+-- how many logins the client of a pair is owed
+abbrev pub owes_to : Unit → List Word → Option Driver → Pair → ℕ
+owes_to unit words None pair = 0
+owes_to unit words (Some driver) pair = owes (between_of unit driver pair) words
+
+abbrev pub owes_at : Unit → List Word → Pair → ℕ
+owes_at unit words pair = owes_to unit words pair.driver pair
+
+pub record PairSteppedOn (granted : ℕ) (unit : Unit) (verb : Verb) (p : Progress) (now : Replay) (last owed : ℕ) (pair : Pair) (step : Step) : Type 0 where
   pub words : List Word
   pub talks : PairTalks granted unit words pair
   pub anew : PairAsks last words pair
   pub stepped : PairSteppedAs granted unit verb p now pair words step
+  pub told : granted_by step + owes_at unit words pair ≤ owed
 
 -- A step of a plain line at its pair goes on as the replay, where nothing is to come to the server unit.
 abbrev pub PairPlainly : Verb → (p p' : Progress) → (old new : Pair) → Result Step NoMemory → Type 0
 PairPlainly verb p p' old new result =
     IsPlainVerb verb → (granted : ℕ) (unit : Unit) (now : Replay) → SparesTables verb now → PairTalks granted unit [] old → PairIs (HasCome granted verb p now) old
-    → IfOk result (PairSteppedOn granted unit verb p' now (rows_in old.driver) new)
+    → IfOk result (PairSteppedOn granted unit verb p' now (rows_in old.driver) (owes_at unit [] old) new)
 
 -- Behind the last line answers are taken, and nothing is asked.
 abbrev pub PairRestsPlainly : (old new : Pair) → Type 0
-PairRestsPlainly old new = (granted : ℕ) (unit : Unit) (now : Replay) → PairTalks granted unit [] old → PairIs (FollowsReplay granted now) old
-    → PairTalks granted unit [] new × PairAsks (rows_in old.driver) [] new × (later : Replay) × PairIs (FollowsReplay granted later) new
+PairRestsPlainly old new = (granted : ℕ) (unit : Unit) (now : Replay) → PairTalks granted unit [] old → PairIs (RestsAs granted now) old
+    → PairTalks granted unit [] new × PairAsks (rows_in old.driver) [] new × (later : Replay) × PairIs (RestsAs granted later) new
+
+-- The partition fails: the client's queue is freed, if it is registered, of which its server unit is to hear; or all is as it was. It asks
+-- for nothing.
+pub record PairFailed (granted : ℕ) (unit : Unit) (words : List Word) (old new : Pair) : Type 0 where
+  pub later : List Word
+  pub talks : PairTalks granted unit later new
+  pub said : (later ≡ words) ⊎ (later ≡ gone ∷ [])
+  pub rows : rows_in new.driver ≡ rows_in old.driver
+  pub left : ((new ≡ old) × (later ≡ words)) ⊎ PairIs WasFailed new
+
+abbrev pub PairFailsPlainly : (old new : Pair) → Type 0
+PairFailsPlainly old new = (granted : ℕ) (unit : Unit) (words : List Word) → PairTalks granted unit words old
+    → ((words ≡ []) × ((side_of old.link false).registered ≡ true)) ⊎ PairIs WasFailed old → PairFailed granted unit words old new
 
 -- The client and its server unit talk on as they did.
 abbrev pub PairTalksOn : (old new : Pair) → Type 0
@@ -83,6 +108,9 @@ PairTalksOn old new = (granted : ℕ) (unit : Unit) → PairTalks granted unit [
 -- the same of all pairs, and of the pair of a line's client
 abbrev pub AllRestPlainly : (old new : List Pair) → Type 0
 AllRestPlainly old new = (k : ℕ) (before after : Pair) → slice_get old k ≡ Some before → slice_get new k ≡ Some after → PairRestsPlainly before after
+
+abbrev pub AllFailPlainly : (old new : List Pair) → Type 0
+AllFailPlainly old new = (k : ℕ) (before after : Pair) → slice_get old k ≡ Some before → slice_get new k ≡ Some after → PairFailsPlainly before after
 
 abbrev pub AllTalkOn : (old new : List Pair) → Type 0
 AllTalkOn old new = (k : ℕ) (before after : Pair) → slice_get old k ≡ Some before → slice_get new k ≡ Some after → PairTalksOn before after
@@ -107,11 +135,12 @@ OfUnit true P Q = P
 OfUnit false P Q = Q
 
 -- How far the current line came, if there is one and it is of this unit; else the client stands between two lines. Behind the last line it
--- takes what answers there are.
+-- takes what answers there are. A line that fails the partition may have freed the client's queue.
 abbrev pub StandsAt : (granted unit : ℕ) → Option Line → Progress → Replay → Pair → Type 0
-StandsAt granted unit None p now pair = (later : Replay) × PairIs (FollowsReplay granted later) pair
+StandsAt granted unit None p now pair = (later : Replay) × PairIs (RestsAs granted later) pair
 StandsAt granted unit (Some line) p now pair =
     OfUnit (line.unit == unit) (PairIs (HasCome granted line.verb p now) pair) (PairIs (FollowsReplay granted now) pair)
+    ⊎ ((fails line.verb ≡ true) × PairIs WasFailed pair)
 
 -- The lines of unit u that ended did so as the replay says, and its client stands as these and its current line leave it.
 pub record StandsPlainly (granted u : ℕ) (script : Script) (pair : Pair) : Type 0 where
@@ -131,6 +160,10 @@ pub record StartsAnew (pair : Pair) : Type 0 where
 abbrev pub StandsPlainlyAt : (granted u k : ℕ) → List Pair → Script → Type 0
 StandsPlainlyAt granted u k pairs script = IsSomeAnd (slice_get pairs k) (StandsPlainly granted u script)
 
+-- how many logins the lines of a unit that ended say were granted
+abbrev pub told_in : (u : ℕ) → Script → ℕ
+told_in u script = granted_in (ended_by u script.lines.now script.logs.items)
+
 -- whether a line may wait for an answer
 abbrev pub awaits : Verb → Bool
 awaits verbs.Login = true
@@ -142,21 +175,30 @@ awaits verb = false
 abbrev pub NoneAwaits : (u : ℕ) → Script → Type 0
 NoneAwaits u script = IfSome (slice_get script.lines.now script.at) (λ line. line.unit ≡ u → awaits line.verb ≡ false)
 
+-- A line that waited was ended, which was none of unit u: its lines that ended are as they were, and so stands its client.
+abbrev pub EndsPlainly : (granted u k : ℕ) → List Pair → (script script' : Script) → Type 0
+EndsPlainly granted u k pairs script script' = NoneAwaits u script → StandsPlainlyAt granted u k pairs script
+    → StandsPlainlyAt granted u k pairs script' × (told_in u script' ≡ told_in u script)
+
 -- a plain client of a script, which is unit u and sits at pair k
 pub record IsPlainSeat (script : Script) (u k : ℕ) : Type 0 where
   pub sits : slice_get script.seats.items u ≡ Some (sits.Client k)
   pub plain : IsPlainClient u script.lines.now
 
--- A turn of a script leaves each plain client as the replay says, where it and this server unit talk plainly and nothing is to come.
-pub record TurnedPlainly (granted u k : ℕ) (unit : Unit) (old new : List Pair) (script : Script) : Type 0 where
+-- A turn of a script leaves each plain client as the replay says, where it and this server unit talk plainly and nothing is to come; a login
+-- that its lines say was granted is one that it was owed, and it is owed no other. (So many were granted before.)
+pub record TurnedPlainly (granted told u k : ℕ) (unit : Unit) (old new : List Pair) (script : Script) : Type 0 where
   pub words : List Word
   pub talks : IsSomeAnd (slice_get new k) (PairTalks granted unit words)
   pub anew : (before after : Pair) → slice_get old k ≡ Some before → slice_get new k ≡ Some after → PairAsks (rows_in before.driver) words after
+  pub owed : (before after : Pair) → slice_get old k ≡ Some before → slice_get new k ≡ Some after
+      → told_in u script + owes_at unit words after ≤ told + owes_at unit [] before
+  pub keeps : AllKeepNoted old new
   pub stands : StandsPlainlyAt granted u k new script
 
 abbrev pub TurnsPlainly : (old new : List Pair) → (script script' : Script) → Type 0
 TurnsPlainly old new script script' = (granted u k : ℕ) (unit : Unit) → IsPlainSeat script u k → IsSomeAnd (slice_get old k) (PairTalks granted unit [])
-    → StandsPlainlyAt granted u k old script → TurnedPlainly granted u k unit old new script'
+    → StandsPlainlyAt granted u k old script → TurnedPlainly granted (told_in u script) u k unit old new script'
 
 -- One that did nothing, where the server unit has nothing to serve, leaves no line of a plain client that waits.
 abbrev pub QuietsPlainly : (old new : List Pair) → (script script' : Script) → Type 0

@@ -1,6 +1,7 @@
 -- A step of a line of a plain client: what it leaves between the client and its server unit, and how the line's record is that of the replay.
-use Rattle.std.specs.Prelude.{◌≡◌, ◌≢◌, ◌⊎◌, ℕ, ◌+◌, ◌<◌, ◌≤◌, All, Bool, true, false, List, [], ◌∷◌, ◌++◌, Option, Some, None, Result, Ok, Err, IfOk, IfSome, drop, is_some, length, ⊤}
+use Rattle.std.specs.Prelude.{◌≡◌, ◌≢◌, ◌⊎◌, ℕ, ◌+◌, ◌<◌, ◌≤◌, All, Bool, true, false, List, [], ◌∷◌, ◌++◌, Option, Some, None, Result, Ok, Err, IfOk, IfSome, drop, is_some, length, ⊤, if◌then◌else◌}
 use Rattle.std.specs.List.{list_any}
+use Rattle.vio_num.specs.Entry.{is_srp_entry}
 use Rattle.vio_num.specs.declared.entry.Entry.{Entry}
 use Rattle.vio_num.specs.declared.memory.NoMemory.{NoMemory}
 use Rattle.vio_num.specs.declared.hypervisor.Moved.{Moved}
@@ -20,11 +21,13 @@ use Rattle.vscsi_client.specs.Spans.{has_page_of, meets, span_of}
 use Rattle.vscsi_client.specs.State.{ClientState, next_tag}
 use Rattle.vscsi_client.specs.declared.outgoing.Outgoing.{Outgoing}
 use Rattle.vscsi_client.specs.declared.outgoing.Span.{Span}
+use Rattle.vscsi_client.specs.declared.row.Row.{Row}
 use Rattle.vscsi_client.specs.declared.stage.Stage.TheVariants.{Idle}
-use Rattle.vcpu_run.specs.Credited.{taken_in}
-use Rattle.vcpu_run.specs.PlainClients.{is_entry, lie_behind, written_by}
-use Rattle.vcpu_run.specs.PlainTalk.{Between, ServerStays, TalksPlainly, is_sent}
+use Rattle.vcpu_run.specs.Credited.{grants, taken_in}
+use Rattle.vcpu_run.specs.PlainClients.{keeps_own, lie_behind, written_by}
+use Rattle.vcpu_run.specs.PlainTalk.{Between, ServerStays, TalksPlainly, is_sent, owes, is_login}
 use Rattle.vcpu_run.specs.Replay.{Asked as Replayed, Range, Replay, after_line, answered, any_share, ends_as, forgotten, logged_in, login_says}
+use Rattle.vcpu_run.specs.TagRows.{is_inward, row_at}
 use Rattle.vcpu_run.specs.declared.taking.Took.{Took}
 use Rattle.vcpu_run.specs.declared.taking.Took.TheVariants as tooks
 use Rattle.vcpu_run.specs.declared.script.Progress.{Progress}
@@ -65,6 +68,16 @@ pub record FollowsReplay (granted : ℕ) (now : Replay) (at : Between) : Type 0 
   pub settled : at.client.handshake ≢ Waiting
   pub fresh : at.own.registered ≡ false → at.client.kept ≡ []
   pub credits : AgreeOnCredits granted now at
+
+-- Its partition failed: its queue is not registered, and no entry that was kept is an event or one of the initialisation. (It knows of the
+-- login and of what is outstanding as before.)
+pub record WasFailed (at : Between) : Type 0 where
+  pub registered : at.own.registered ≡ false
+  pub kept : All (λ (entry : Entry). is_srp_entry entry ≡ true) at.client.kept
+
+-- behind the last line
+abbrev pub RestsAs : (granted : ℕ) → Replay → Between → Type 0
+RestsAs granted now at = FollowsReplay granted now at ⊎ WasFailed at
 
 -- In the midst of a login, while the client waits to hear of its server unit: nothing is on, and nothing outstanding.
 pub record AwaitsUnit (now : Replay) (at : Between) : Type 0 where
@@ -131,17 +144,30 @@ abbrev pub IsNewWord : (last most : ℕ) → Word → Type 0
 IsNewWord last most (asks address bytes iu) = (last < tag_asked iu) × (tag_asked iu ≤ most)
 IsNewWord last most word = ⊤
 
+-- What a login is asked under is kept as that of no command with data-in.
+abbrev pub KeepsLogin : List Row → Word → Type 0
+KeepsLogin rs (asks address bytes iu) = is_login iu ≡ true → is_inward (row_at rs (tag_asked iu)) ≡ false
+KeepsLogin rs word = ⊤
+
 -- Since it had asked for so many things, a client asked for what these words do, and for no more.
 pub record AsksAnew (last : ℕ) (s : ClientState) (words : List Word) : Type 0 where
   pub more : last ≤ length s.rows
   pub asked : All (IsNewWord last (length s.rows)) words
+  pub logins : All (KeepsLogin s.rows) words
 
--- These words are to come behind the step of a client that had asked for so many things.
-pub record StepsOn (granted : ℕ) (verb : Verb) (p : Progress) (now : Replay) (last : ℕ) (at : Between) (step : Step) : Type 0 where
+-- how many logins a step ends as granted: one, or none
+abbrev pub granted_by : Step → ℕ
+granted_by (steps.Ends outcome) = if grants outcome then 1 else 0
+granted_by (steps.Waits did) = 0
+
+-- These words are to come behind the step of a client that had asked for so many things, and was owed so many logins: one of which it is told
+-- is owed no more.
+pub record StepsOn (granted : ℕ) (verb : Verb) (p : Progress) (now : Replay) (last owed : ℕ) (at : Between) (step : Step) : Type 0 where
   pub words : List Word
   pub talks : TalksPlainly granted at words
   pub anew : AsksAnew last at.client words
   pub replayed : IsAsReplayed granted verb p now at words step
+  pub told : granted_by step + owes at words ≤ owed
 
 -- a client, its queue's end and its window, without the server unit
 pub record Own : Type 0 where
@@ -155,9 +181,9 @@ own_by client end window = record { client = client; end = end; window = window 
 abbrev pub beside : Unit → EndState → Own → Between
 beside unit server own = record { unit = unit; server = server; client = own.client; own = own.end; window = own.window }
 
--- A line puts no value into an entry, and writes behind the pages that are the driver's.
+-- A line keeps each entry its own page, and those of the driver's pages all rights; and it writes behind these.
 pub record IsPlainVerb (verb : Verb) : Type 0 where
-  pub no_entry : is_entry verb ≡ false
+  pub own_entry : keeps_own verb ≡ true
   pub behind : lie_behind (written_by verb) ≡ true
 
 -- A line writes on no page of a table of what is outstanding.
@@ -171,7 +197,7 @@ StepsPlainly verb p p' old new result =
     IsPlainVerb verb → (granted : ℕ) (unit : Unit) (server server' : EndState) (now : Replay) → SparesTables verb now
     → ServerStays (beside unit server old) (beside unit server' new) → TalksPlainly granted (beside unit server old) []
     → HasCome granted verb p now (beside unit server old)
-    → IfOk result (StepsOn granted verb p' now (length old.client.rows) (beside unit server' new))
+    → IfOk result (StepsOn granted verb p' now (length old.client.rows) (owes (beside unit server old) []) (beside unit server' new))
 
 -- WHAT TAKING AN ENTRY LEAVES ---------------------------------------------------------------------
 
@@ -188,11 +214,18 @@ pub record TakesEntries (old new : EndState) : Type 0 where
   pub rows : List PipeRow
   pub more : new.taken ≡ old.taken ++ rows
 
+-- Where its partition failed, it has, and the client has asked for nothing since.
+abbrev pub FailsOn : (old new : Own) → Type 0
+FailsOn old new = (granted : ℕ) (unit : Unit) (server server' : EndState) → ServerStays (beside unit server old) (beside unit server' new)
+    → TalksPlainly granted (beside unit server old) [] → WasFailed (beside unit server old)
+    → TalksPlainly granted (beside unit server' new) [] × WasFailed (beside unit server' new) × (next_tag new.client ≡ next_tag old.client)
+
 pub record TakesPlainly (took : Took) (old new : Own) : Type 0 where
   pub entries : TakesEntries old.end new.end
   pub leaves : (granted : ℕ) (unit : Unit) (server server' : EndState) (now : Replay) → ServerStays (beside unit server old) (beside unit server' new)
       → TalksPlainly granted (beside unit server old) [] → FollowsReplay granted now (beside unit server old)
       → TalksPlainly granted (beside unit server' new) [] × LeavesTook granted now took (beside unit server' new)
+  pub failed : FailsOn old new
 
 -- WHAT A TURN OF A LOGIN LEAVES -------------------------------------------------------------------
 
@@ -210,8 +243,8 @@ IsLoginReplayed granted now at words (steps.Waits did) = IsLoggingIn granted now
 -- Behind the last line answers are taken, and nothing is asked.
 abbrev pub RestsPlainly : (old new : Own) → Result Moved NoMemory → Type 0
 RestsPlainly old new result = (granted : ℕ) (unit : Unit) (server server' : EndState) (now : Replay) → ServerStays (beside unit server old) (beside unit server' new)
-    → TalksPlainly granted (beside unit server old) [] → FollowsReplay granted now (beside unit server old)
-    → IfOk result (λ moved. TalksPlainly granted (beside unit server' new) [] × (later : Replay) × (later.tag ≡ now.tag) × FollowsReplay granted later (beside unit server' new))
+    → TalksPlainly granted (beside unit server old) [] → RestsAs granted now (beside unit server old)
+    → IfOk result (λ moved. TalksPlainly granted (beside unit server' new) [] × (later : Replay) × (next_tag new.client ≡ next_tag old.client) × RestsAs granted later (beside unit server' new))
 
 abbrev pub LogsInPlainly : (old new : Own) → Result Step NoMemory → Type 0
 LogsInPlainly old new result = (granted : ℕ) (unit : Unit) (server server' : EndState) (now : Replay) → ServerStays (beside unit server old) (beside unit server' new)

@@ -1,13 +1,14 @@
 -- What lies between a plain client and its server unit between turns: what the client asked and is not done with, where each of that is,
 -- and how far both have come.
-use Rattle.std.specs.Prelude.{get_or, ◌≡◌, ◌≢◌, ◌⊎◌, ℕ, ◌+◌, ◌*◌, ◌<◌, ◌≤◌, ◌++◌, ◌&&◌, nat_le, not, All, Bool, true, false, List, [], ◌∷◌, Option, Some, None, IsSome, filter, is_some, length, map, min, ⊤, if◌then◌else◌}
+use Rattle.std.specs.Prelude.{get_or, ◌≡◌, ◌≢◌, ◌⊎◌, ℕ, ◌+◌, ◌*◌, ◌/◌, ◌<◌, ◌≤◌, ◌++◌, ◌&&◌, nat_le, not, All, Bool, true, false, List, [], ◌∷◌, Option, Some, None, IsSome, filter, is_some, length, map, min, slice_get, ⊤, if◌then◌else◌}
 use Rattle.vio_num.specs.Entry.{initialization_complete, srp_entry}
+use Rattle.vio_num.specs.declared.TheConstants.{PAGE_BYTES}
 use Rattle.vio_num.specs.declared.entry.Entry.{Entry}
 use Rattle.crq_session.specs.Answered.{received_now, taken_now}
 use Rattle.crq_session.specs.EndState.{EndState}
 use Rattle.crq_session.specs.declared.handshake.Handshake.TheVariants.{Down, Up, Waiting}
 use Rattle.srp_iu.specs.Grammar.{Canon, Spells}
-use Rattle.srp_desc.specs.Pieces.{named, pieces}
+use Rattle.srp_desc.specs.Pieces.{named, pieces, sum_of}
 use Rattle.srp_desc.specs.Tables.{table_len, tables_of}
 use Rattle.srp_iu.specs.declared.buffer.Buffer.{Buffer}
 use Rattle.srp_iu.specs.declared.buffer.Buffer.TheVariants.{Absent}
@@ -17,6 +18,7 @@ use Rattle.srp_iu.specs.declared.unit.Iu.{Iu}
 use Rattle.srp_iu.specs.declared.unit.Iu.TheVariants as units
 use Rattle.tce_window.specs.PortState.{PortState}
 use Rattle.tce_window.specs.Region.{region_byte}
+use Rattle.block_server.specs.Carried.{address_of}
 use Rattle.block_server.specs.Ends.{IsGrantable}
 use Rattle.block_server.specs.Ranges.{IsDataIn}
 use Rattle.block_server.specs.Standing.{stood}
@@ -36,12 +38,15 @@ use Rattle.vscsi_client.specs.Units.{slot_address}
 use Rattle.vscsi_client.specs.declared.TheConstants.{DATA_START, SLOTS}
 use Rattle.vscsi_client.specs.declared.outgoing.Outgoing.{Outgoing}
 use Rattle.vscsi_client.specs.declared.outgoing.Span.{Span}
+use Rattle.vscsi_client.specs.declared.row.Row.{Row}
 use Rattle.vscsi_client.specs.declared.stage.Stage.{Stage}
 use Rattle.vscsi_client.specs.declared.stage.Stage.TheVariants.{Idle, Sent, Written}
+use Rattle.vcpu_run.specs.DataKept.{IsInwardAt}
 
 -- WHAT IS ASKED -----------------------------------------------------------------------------------
 
--- something that a client asked: its tag, the slot of its unit, the unit and its bytes, and the pages of its data and of its table
+-- something that a client asked: its tag, the slot of its unit, the unit and its bytes, the pages of its data and of its table, and the
+-- address of its data
 pub record Ask : Type 0 where
   pub tag : ℕ
   pub slot : ℕ
@@ -49,6 +54,7 @@ pub record Ask : Type 0 where
   pub bytes : List ℕ
   pub pages : Span
   pub table : Span
+  pub start : ℕ
 
 -- whether it is a login, a logout, or one of those that a login grants
 abbrev pub is_login : Iu → Bool
@@ -203,17 +209,23 @@ pub record TableStands (window : PortState) (span : Span) (bytes : List ℕ) (ta
   pub lies : LiesOn span table
   pub stands : (k : ℕ) → k < table.len → region_byte window.strokes (table.address + k) ≡ get_or bytes k 0
 
--- The table of the data-in of what is asked, if it has one, stands on the table's pages, and names pieces on the pages of the data.
+-- The table of the data-in of what is asked, if it has one, stands on the table's pages, and names pieces on the pages of the data: one range,
+-- from the address of the data on.
 pub record DataLies (window : PortState) (ask : Ask) : Type 0 where
   pub bytes : List ℕ
   pub whole : length bytes ≡ table_len (inn_of ask.iu)
   pub table : All (TableStands window ask.table bytes) (tables_of (inn_of ask.iu))
   pub goes : (list : List Desc) → pieces (inn_of ask.iu) bytes ≡ named list → All (LiesOn ask.pages) list
+  pub places : (list : List Desc) → pieces (inn_of ask.iu) bytes ≡ named list → (j : ℕ) → j < sum_of list → address_of list j ≡ Some (ask.start + j)
 
 -- the data of none of these lie on a page of the table of a later one
 abbrev pub AreSpared : List Ask → Type 0
 AreSpared [] = ⊤
 AreSpared (ask ∷ more) = All (λ other. meets ask.pages other.table ≡ false) more × AreSpared more
+
+-- In a client's rows the data-in of what is asked lie where they lie.
+abbrev pub StartsAt : List Row → Ask → Type 0
+StartsAt rs ask = (at len : ℕ) → IsInwardAt rs ask.tag at len → at ≡ ask.start
 
 -- HOW FAR BOTH HAVE COME --------------------------------------------------------------------------
 
@@ -244,10 +256,15 @@ pub record AreEnds (server own : EndState) : Type 0 where
   pub server_took : TookNoMore server
   pub own_took : TookNoMore own
 
--- Each entry of the window has its first value alone, which names its own page with all rights; the region has the pages of the slots and
--- of the place behind them, and 256 at most; and each of its pages is there.
+-- Each value of an entry names the entry's own page; the last one of an entry on the driver's pages does so with all rights.
+pub record IsOwnEntry (e : ℕ) (values : List ℕ) : Type 0 where
+  pub names : (version value : ℕ) → slice_get values version ≡ Some value → value / PAGE_BYTES ≡ e
+  pub usable : PAGE_BYTES * e < DATA_START → (before : List ℕ) × (values ≡ before ++ (PAGE_BYTES * e + 3) ∷ [])
+
+-- The entries of the window are its own; the region has the pages of the slots and of the place behind them, and 256 at most; and each of
+-- its pages is there.
 pub record IsOwnWindow (window : PortState) : Type 0 where
-  pub values : (e : ℕ) → window.values e ≡ (4096 * e + 3) ∷ []
+  pub values : (e : ℕ) → IsOwnEntry e (window.values e)
   pub size : DATA_START ≤ 4096 * window.place.size
   pub most : window.place.size ≤ 256
   pub there : (p : ℕ) → p < window.place.size → IsSome (window.strokes p)
@@ -369,6 +386,7 @@ pub record IsTalking (granted : ℕ) (at : Between) (words : List Word) (asked :
   pub within : length at.client.outgoing ≤ 200
   pub counts : CountsAsked at.unit asked.pending
   pub tables : All (DataLies at.window) (asked.pending ++ asked.coming)
+  pub starts : All (StartsAt at.client.rows) (asked.pending ++ asked.coming)
   pub spared : AreSpared (asked.pending ++ asked.coming)
   pub login : AgreeOnLogin granted at asked answers
 
@@ -386,6 +404,18 @@ pub record TalksPlainly (granted : ℕ) (at : Between) (words : List Word) : Typ
 abbrev pub is_grant : Outcome → Bool
 is_grant (outcomes.Granted number) = true
 is_grant outcome = false
+
+-- WHAT THE CLIENT IS OWED -------------------------------------------------------------------------
+
+-- whether one of these words asks for a logout
+abbrev pub logs_out : List Word → Bool
+logs_out [] = false
+logs_out (asks address bytes iu ∷ words) = if is_logout iu then true else logs_out words
+logs_out (word ∷ words) = logs_out words
+
+-- how many logins the server unit granted that take requests behind these words, and of which the client does not know: one, or none
+abbrev pub owes : Between → List Word → ℕ
+owes at words = if at.own.registered && (not (is_some at.client.granted) && (at.unit.logins.taking && not (logs_out words))) then 1 else 0
 
 -- WHAT A TURN OF THE SERVER UNIT LEAVES -----------------------------------------------------------
 

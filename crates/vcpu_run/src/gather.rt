@@ -152,6 +152,7 @@ pub(crate) fn gather(
         IsShownAll partitions trace copies.items pairs.items) }
     ensures plainly { IfOk result (λ trace. (partitions : List Partition) →
         IsOfPlan partitions pairs.items scripts.entry.items lan.seats →
+        AreTold pairs.items scripts.entry.items →
         AreAtRest copies.items grants.items history.items pairs.items scripts.entry.items →
         (granted home : ℕ) (units : List Unit) →
         ArePlain granted home (books_of units grants.items history.items)

@@ -11,7 +11,7 @@ ghost use Rattle.vcpu_run.specs.Lines.{IsOver, is_over, place_behind};
 ghost use Rattle.vcpu_run.specs.Holding.{LeavesResetOpen, IsResetOpen, KeepsQueues};
 ghost use Rattle.vcpu_run.specs.Links.{SeatsRest, SeatsRestWhole};
 ghost use Rattle.vcpu_run.specs.Pairs.{AreDriven, AreDrivers};
-ghost use Rattle.vcpu_run.specs.PlainScripts.{NoneAwaits, QuietsPlainly, StandsPlainly, StandsPlainlyAt, StartsAnew, TurnsPlainly};
+ghost use Rattle.vcpu_run.specs.PlainScripts.{EndsPlainly, QuietsPlainly, StandsPlainly, StartsAnew, TurnsPlainly};
 ghost use Rattle.vcpu_run.specs.Quietly.{OnQuiet};
 ghost use Rattle.lan_script.specs.Units.{LanValue};
 ghost use Rattle.vcpu_run.specs.Ports.{HasPorts};
@@ -347,9 +347,7 @@ impl<'p> Script<'p> {
             IsResetOpen pairs self.old → KeepsQueues pairs self.old → KeepsQueues pairs self.new) }
         ensures quiet { OnQuiet result (self.new ≡ self.old) }
         ensures plainly { OnOk result ((granted u k : ℕ) (pairs : List PairValue) →
-            IsScript pairs self.old → NoneAwaits u self.old →
-            StandsPlainlyAt granted u k pairs self.old →
-            StandsPlainlyAt granted u k pairs self.new) }
+            IsScript pairs self.old → EndsPlainly granted u k pairs self.old self.new) }
     {
         let lines = self.lines;
         let Some(line) = lines.get(self.at) else {

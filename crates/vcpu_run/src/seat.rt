@@ -1,6 +1,7 @@
 // What a client partition does at one of its pairs.
 ghost use Rattle.std.specs.Prelude.{◌≡◌, [], ⊤, true, false, IfOk, IsSomeAnd, OnOk, Some, length};
 ghost use Rattle.crq_session.specs.PlainState.{end_of, side_of};
+ghost use Rattle.vscsi_client.specs.Turned.{unlinked};
 ghost use Rattle.vcpu_run.specs.Pairs.{Drives, IsDriver};
 ghost use Rattle.vcpu_run.specs.Credited.{StepsAgreed, taken_in};
 ghost use Rattle.vcpu_run.specs.EventsMade.{PairCalm, PairMakes, PairShuts};
@@ -16,7 +17,7 @@ ghost use Rattle.hcall_table.specs.Asked.{bare};
 ghost use Rattle.hcall_table.specs.Rows.{IsAnswer, may_answer};
 ghost use Rattle.vcpu_run.specs.CallRows.{arguments_for, queue_arguments, queue_row, row_for};
 ghost use Rattle.vcpu_run.specs.CallsAnswered.{IsReturned, unit_seen};
-ghost use Rattle.vcpu_run.specs.PlainScripts.{PairPlainly, PairRestsPlainly, PairTalksOn};
+ghost use Rattle.vcpu_run.specs.PlainScripts.{PairFailsPlainly, PairPlainly, PairRestsPlainly, PairTalksOn};
 ghost use Rattle.vcpu_run.specs.PlainSeated.{DriverPlainly, IsToldSince};
 ghost use Rattle.vcpu_run.specs.PlainTalk.{TookNoMore};
 ghost use Rattle.vcpu_run.specs.Sendings.{SameCredits};
@@ -191,6 +192,7 @@ pub(crate) fn fail(pair: &mut Pair) -> Result<bool, NoMemory>
     ensures gives { OnOk result (PairGives pair.old pair.new) }
     ensures credit { OnDrivers pair.old.driver pair.new.driver (λ a b.
         SameCredits a.client b.client) }
+    ensures plainly { OnOk result (PairFailsPlainly pair.old pair.new) }
 {
     let mut end = pair.link.side(false);
     end.reserve(1)?;
@@ -214,6 +216,8 @@ fn freed(pair: &mut Pair)
     ensures gives { PairGives pair.old pair.new }
     ensures credit { OnDrivers pair.old.driver pair.new.driver (λ a b.
         SameCredits a.client b.client) }
+    ensures told { OnDrivers pair.old.driver pair.new.driver (λ a b.
+        b.client ≡ unlinked a.client) }
 {
     let Some(driver) = &mut pair.driver else {
         unreachable!()

@@ -13,7 +13,7 @@ ghost use Rattle.vcpu_run.specs.Freeing.{IsSpared, is_reset};
 ghost use Rattle.vcpu_run.specs.Holding.{LineOpen, SeatOpen};
 ghost use Rattle.vcpu_run.specs.Links.{ClientWaits, EventWaits, EventsWait, LinksRest, SeatsRest, links_of};
 ghost use Rattle.vcpu_run.specs.Pairs.{AreDriven, IsDriver};
-ghost use Rattle.vcpu_run.specs.PlainScripts.{AllRestPlainly, AllTalkOn, LinePlainly, SeatPlainly};
+ghost use Rattle.vcpu_run.specs.PlainScripts.{AllFailPlainly, AllRestPlainly, AllTalkOn, LinePlainly, SeatPlainly};
 ghost use Rattle.vcpu_run.specs.Ports.{HavePorts, IsPortOf};
 ghost use Rattle.vcpu_run.specs.PortCalls.{EndsEntries};
 ghost use Rattle.vcpu_run.specs.PortMacs.{EndsPorts};
@@ -341,6 +341,7 @@ fn fail_of(pairs: &mut [Pair], pair: usize) -> Result<bool, NoMemory>
     ensures down { IfOk result (λ done. done ≡ true →
         opens_if (slice_get pairs.new pair) ≡ 0) }
     ensures others { SameBeside pair pairs.old pairs.new }
+    ensures plainly { OnOk result (AllFailPlainly pairs.old pairs.new) }
 {
     seat::fail(&mut pairs[pair])
 }
@@ -363,6 +364,7 @@ fn fail_at(unit: UnitId, seat: Seat, pairs: &mut [Pair], lan: &mut Lan) -> Resul
     ensures lan { lan.new.seats ≡ lan.old.seats }
     ensures idle { AllSilent lan.old lan.new }
     ensures beside { IsBeside unit lan.old lan.new }
+    ensures plainly { OnOk result (AllFailPlainly pairs.old pairs.new) }
 {
     match seat {
         Seat::Client(pair) => fail_of(pairs, pair),
@@ -394,6 +396,7 @@ pub(crate) fn fail(
     ensures lan { lan.new.seats ≡ lan.old.seats }
     ensures idle { AllSilent lan.old lan.new }
     ensures apart { IsApart partition lan.old lan.new }
+    ensures plainly { OnOk result (AllFailPlainly pairs.old pairs.new) }
 {
     for k in 0..seats.len() {
         let unit = UnitId {

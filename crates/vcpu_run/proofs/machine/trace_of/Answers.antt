@@ -33,8 +33,9 @@ returns-in-Ok-clause-grants c = said_told c.gather.result c.ok.result _ c.ok.ens
 pub returns-in-Ok-clause-plainly : goal.returns-in-Ok-clause-plainly
 returns-in-Ok-clause-plainly c =
     let rests = subst (λ r. OnOk r (AreAtRest c.args.copies.items c.args.grants.items c.args.history.items c.args.pairs.items c.args.scripts.items)) c.in-Ok.is c.requires.rests in
+    let said = subst (λ r. OnOk r (AreTold c.args.pairs.items c.args.scripts.items)) c.in-Ok.is c.requires.said in
     said_told c.gather.result c.ok.result _ c.ok.ensures.value
     (each_told c.gather.result _ _
-    (λ trace keeps partitions of_plan granted home units plain. keeps partitions of_plan rests granted home units
+    (λ trace keeps partitions of_plan granted home units plain. keeps partitions of_plan said rests granted home units
     (subst (λ r. OnOk r (ArePlain granted home (books_of units c.args.grants.items c.args.history.items) c.args.pairs.items c.args.scripts.items)) c.in-Ok.is plain))
     c.gather.ensures.plainly)

@@ -164,8 +164,8 @@ returns-clause-plainly c =
     let found = slice_get-get_or scripts c.args.number d c.requires.there in
     ok_then c.turn.result _ _
     (λ turns granted home books other is.
-    turned_plainly granted home c.args.number books c.args.pairs.now c.turn.new.pairs c.args.lan.now.seats scripts old c.turn.new.self found c.requires.scripts c.turn.ensures.others c.turn.ensures.rest
-    (subst (λ o. IsSomeAnd o (λ script. are_servers script.seats.items ≡ false)) found other) turns is)
+    turned_plainly granted home c.args.number books c.args.pairs.now c.turn.new.pairs c.args.lan.now.seats scripts old c.turn.new.self found c.requires.scripts c.turn.ensures.driven
+    c.turn.ensures.others c.turn.ensures.rest (subst (λ o. IsSomeAnd o (λ script. are_servers script.seats.items ≡ false)) found other) turns is)
     c.turn.ensures.plainly
 
 pub returns-clause-quietly : goal.returns-clause-quietly

@@ -11,6 +11,7 @@ use Rattle.crq_session.specs.PlainState.{end_of, side_of, state_of}
 use Rattle.crq_session.specs.declared.link.PlainLink.{PlainLink}
 use Rattle.vcpu_run.proofs.CalmTurns.{ShutsEnd, shuts_failed, shuts_link, shuts_on, shuts_ready, shuts_same}
 use Rattle.vcpu_run.proofs.FailedShut.{off_link}
+use Rattle.vcpu_run.proofs.PlainFailing.{pair_freed, pair_shut}
 use Rattle.vcpu_run.proofs.LoginsTold.{true_false}
 use Rattle.vcpu_run.proofs.seat.fail.Goals as goal
 
@@ -124,3 +125,37 @@ returns-in-Parameter-clause-down c = λ is.
 
 pub returns-in-Busy-clause-down : goal.returns-in-Busy-clause-down
 returns-in-Busy-clause-down c = λ is. absurd (true_false true refl (sym is))
+
+pub returns-in-Success-clause-plainly : goal.returns-in-Success-clause-plainly
+returns-in-Success-clause-plainly c =
+    let room = c.in_ok-reserve.ensures.rest in
+    let rest = c.fail.ensures.rest in
+    pair_freed c.side-end.result.first c.fail.new.self.first (c.side-end.result.link.ghost_name ∷ []) (c.fail.new.self.link.ghost_name ∷ []) c.side-end.result.link.now
+    c.fail.new.self.link.now (state_of c.reserve.new.self) c.args.pair.now c.freed.new.pair c.side-end.ensures.link c.side-end.ensures.first
+    (ap (λ (p : EndPlace). p.first) (rest.place ∙ room.place) ∙ c.side-end.ensures.first)
+    (drives_on c.args.pair.now _ c.freed.new.pair
+    (drives_link c.side-end.result.first c.fail.new.self.first _ _ c.args.pair.now c.side-end.result.link.now c.fail.new.self.link.now c.side-end.ensures.link c.side-end.ensures.first
+    (rest.place ∙ room.place) (rest.counts.same_session refl ∙ ap (λ (counts : EndCounts). counts.partner_session) room.counts)
+    (puts_ready _ _ _ room (rest.counts.same_session refl) (puts_frees false _ _ partner_failed c.fail.result refl refl c.fail.ensures.success c.fail.ensures.busy c.fail.ensures.refused))
+    (some_none _ c.args.pair.now.driver _ c.requires))
+    c.freed.ensures.drives)
+    c.freed.ensures.link c.freed.ensures.window c.freed.ensures.told room c.in-Success.ensures.success rest
+
+pub returns-in-Parameter-clause-plainly : goal.returns-in-Parameter-clause-plainly
+returns-in-Parameter-clause-plainly c =
+    let old = c.args.pair.now in
+    let room = c.in_ok-reserve.ensures.rest in
+    let rest = c.fail.ensures.rest in
+    let mid : Pair = record { server = old.server; link = c.fail.new.self.link.now; own = old.own; window = old.window; driver = old.driver } in
+    pair_shut c.side-end.result.first c.fail.new.self.first (c.side-end.result.link.ghost_name ∷ []) (c.fail.new.self.link.ghost_name ∷ []) c.side-end.result.link.now
+    (state_of c.reserve.new.self) old mid c.side-end.ensures.link c.side-end.ensures.first
+    (ap (λ (p : EndPlace). p.first) (rest.place ∙ room.place) ∙ c.side-end.ensures.first)
+    (drives_link c.side-end.result.first c.fail.new.self.first _ _ c.args.pair.now c.side-end.result.link.now c.fail.new.self.link.now c.side-end.ensures.link c.side-end.ensures.first
+    (rest.place ∙ room.place) (rest.counts.same_session refl ∙ ap (λ (counts : EndCounts). counts.partner_session) room.counts)
+    (puts_ready _ _ _ room (rest.counts.same_session refl) (puts_frees false _ _ partner_failed c.fail.result refl refl c.fail.ensures.success c.fail.ensures.busy c.fail.ensures.refused))
+    (some_none _ c.args.pair.now.driver _ c.requires))
+    refl refl room c.in-Parameter.ensures.refused (c.fail.ensures.parameter.0 c.in-Parameter.is)
+
+-- the end is not shared
+pub returns-in-Busy-clause-plainly : goal.returns-in-Busy-clause-plainly
+returns-in-Busy-clause-plainly c = absurd (true_false true refl (sym c.in-Busy.ensures.busy.shared_end))

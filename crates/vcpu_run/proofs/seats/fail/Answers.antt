@@ -11,6 +11,7 @@ use Rattle.vcpu_run.proofs.GivesAll.{all_give_on, all_give_same}
 use Rattle.vcpu_run.proofs.FailedPorts.{closed_all, closed_before, closed_next}
 use Rattle.vcpu_run.proofs.FailedShut.{shut_all, shut_before, shut_next}
 use Rattle.vcpu_run.proofs.LoginsTold.{true_false}
+use Rattle.vcpu_run.proofs.PlainSeats.{all_fail_on, all_fail_same}
 use Rattle.vcpu_run.proofs.seats.fail.Goals as goal
 
 pub fail_at-requires-clause-client : goal.fail_at-requires-clause-client
@@ -31,6 +32,7 @@ pub loop-k-preserved : goal.loop-k-preserved
 loop-k-preserved c = record {
   driven = driven_on c.args.pairs.now c.loop-k.pairs c.fail_at.new.pairs c.loop-k.invariant.driven c.fail_at.ensures.driven;
   gives = all_give_on c.args.pairs.now c.loop-k.pairs c.fail_at.new.pairs c.loop-k.invariant.gives c.in_ok-fail_at.ensures.gives;
+  fails = all_fail_on c.args.pairs.now c.loop-k.pairs c.fail_at.new.pairs c.loop-k.invariant.driven c.loop-k.invariant.fails c.in_ok-fail_at.ensures.plainly;
   values = values_then c.args.pairs.now c.loop-k.pairs c.fail_at.new.pairs c.loop-k.invariant.values c.fail_at.ensures.values;
   lays = none_lay_on c.args.pairs.now c.loop-k.pairs c.fail_at.new.pairs c.loop-k.invariant.lays c.fail_at.ensures.lays;
   shut = shut_then c.args.pairs.now c.loop-k.pairs c.fail_at.new.pairs c.loop-k.invariant.shut c.fail_at.ensures.shut;
@@ -110,6 +112,7 @@ pub loop-k-init : goal.loop-k-init
 loop-k-init c = record {
   driven = driven_same c.args.pairs.now;
   gives = all_give_same c.args.pairs.now;
+  fails = all_fail_same c.args.pairs.now;
   values = λ k. refl;
   lays = none_lay_same c.args.pairs.now;
   shut = shut_none c.args.pairs.now;
@@ -135,3 +138,10 @@ returns-then-not-branch-clause-closes c = λ is. absurd (true_false true refl (s
 
 pub returns-clause-closes : goal.returns-clause-closes
 returns-clause-closes c = λ is. closed_all c.args.partition c.args.seats.now c.loop-k.k c.loop-k.lan (omega (arith, c.loop-k-test.false)) c.loop-k.invariant.closes
+
+pub returns-then-not-branch-clause-plainly : goal.returns-then-not-branch-clause-plainly
+returns-then-not-branch-clause-plainly c =
+    all_fail_on c.args.pairs.now c.loop-k.pairs c.fail_at.new.pairs c.loop-k.invariant.driven c.loop-k.invariant.fails c.in_ok-fail_at.ensures.plainly
+
+pub returns-clause-plainly : goal.returns-clause-plainly
+returns-clause-plainly c = c.loop-k.invariant.fails

@@ -3,6 +3,7 @@ use Rattle.vcpu_run.specs.Agreed.{AllSame, SameElse}
 use Rattle.vcpu_run.specs.Pairs.{AreDriven}
 use Rattle.vcpu_run.specs.Ports.{HavePorts}
 use Rattle.vcpu_run.specs.PortSteps.{AllSilent, IsApart}
+use Rattle.vcpu_run.specs.PlainScripts.{AllFailPlainly}
 use Rattle.vcpu_run.specs.TakenScripts.{AllGive}
 use Rattle.vcpu_run.specs.EventsMade.{AllShut}
 use Rattle.vcpu_run.specs.FailedPorts.{AreClosedTo}
@@ -16,6 +17,7 @@ abbrev pub invariant-loop-k : goal.invariant-loop-k
 invariant-loop-k l = record {
   driven : AreDriven l.initial.pairs l.pairs;
   gives : AllGive l.initial.pairs l.pairs;
+  fails : AllFailPlainly l.initial.pairs l.pairs;
   values : AllSameValues l.initial.pairs l.pairs;
   lays : NoneLay l.initial.pairs l.pairs;
   shut : AllShut l.initial.pairs l.pairs;

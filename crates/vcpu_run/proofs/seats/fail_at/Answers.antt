@@ -1,5 +1,6 @@
 use Rattle.std.proofs.Common.{rules, ◌≡◌, ◌∙◌, ◌∷◌, [], ℕ, Some, ap, slice_get, subst, sym}
 use Rattle.vcpu_run.proofs.Driving.{seat_within}
+use Rattle.vcpu_run.proofs.Crediting.{on_ok}
 use Rattle.vcpu_run.proofs.Elsewhere.{else_one}
 use Rattle.vcpu_run.proofs.FailedPorts.{closes_silent}
 use Rattle.vcpu_run.proofs.PortTurns.{idle_same, silent_same}
@@ -8,6 +9,7 @@ use Rattle.vcpu_run.proofs.CalmTurns.{shut_none}
 use Rattle.vcpu_run.proofs.ClientsLay.{none_lay_same}
 use Rattle.vcpu_run.specs.declared.unit_seat.Seat.TheVariants as sits
 use Rattle.vcpu_run.specs.FailedShut.{opens_if}
+use Rattle.vcpu_run.proofs.PlainSeats.{all_fail_same}
 use Rattle.vcpu_run.proofs.PortsResting.{ok_any}
 use Rattle.vcpu_run.proofs.Resting.{ok_more}
 use Rattle.vcpu_run.proofs.seats.fail_at.Goals as goal
@@ -62,3 +64,9 @@ returns-in-Client-clause-closes c = ok_any c.fail_of.result _ (λ done is at. ab
 
 pub returns-in-Server-clause-closes : goal.returns-in-Server-clause-closes
 returns-in-Server-clause-closes c = λ is at. absurd (cc (c.in-Server.is, at))
+
+pub returns-in-Port-clause-plainly : goal.returns-in-Port-clause-plainly
+returns-in-Port-clause-plainly c = on_ok c.fail.result _ (all_fail_same c.args.pairs.now)
+
+pub returns-in-Server-clause-plainly : goal.returns-in-Server-clause-plainly
+returns-in-Server-clause-plainly c = all_fail_same c.args.pairs.now

@@ -6,6 +6,7 @@ use Rattle.vcpu_run.proofs.Driving.{driven_set, some_there}
 use Rattle.vcpu_run.proofs.GivesAll.{all_give_ok}
 use Rattle.vcpu_run.proofs.CalmTurns.{shut_set}
 use Rattle.vcpu_run.proofs.FailedShut.{off_set}
+use Rattle.vcpu_run.proofs.PlainSeats.{all_fail_ok}
 use Rattle.vcpu_run.proofs.Resting.{ok_more}
 use Rattle.vcpu_run.proofs.seats.fail_of.Goals as goal
 
@@ -38,3 +39,7 @@ returns-clause-lays c =
 
 pub returns-clause-down : goal.returns-clause-down
 returns-clause-down c = ok_more c.fail.result _ _ (λ done off is. off_set c.args.pairs.now c.args.pair c.fail.new.pair c.requires.there (off is)) c.fail.ensures.down
+
+pub returns-clause-plainly : goal.returns-clause-plainly
+returns-clause-plainly c =
+    all_fail_ok c.fail.result c.args.pairs.now c.args.pair _ c.fail.new.pair (slice_get-get_or c.args.pairs.now c.args.pair _ c.requires.there) c.fail.ensures.plainly

@@ -1,6 +1,7 @@
 use Rattle.std.proofs.Common.{◌≡◌, ◌≤◌, Err, length, refl, rules}
 use Rattle.srp_desc.specs.declared.pieces.TheConstants.{MAX_DATA_LEN}
 use Rattle.vcpu_run.specs.LinesShow.{seen_by}
+use Rattle.unit_region.specs.declared.step.Step.TheVariants as steps
 use Rattle.vio_trace.specs.declared.outcome.Outcome.TheVariants as outcomes
 use Rattle.vio_num.specs.declared.hypervisor.Moved.TheVariants.{Quiet}
 use Rattle.vscsi_client.specs.declared.answers.DataFault.TheVariants as faults
@@ -69,22 +70,22 @@ returns-in-Err-NoMemory-clause-marks g c = reads_none_laid g.O.WindowPort.is_sha
 pub returns-in-Ok-clause-plainly : goal.returns-in-Ok-clause-plainly
 returns-in-Ok-clause-plainly g c = λ alone end p.
     data_steps g.O.WindowPort.is_shared c.args.tag p (own_by c.args.self.now.client end (g.O.WindowPort.state c.args.own.now))
-    (own_by c.data_of.new.self end (g.O.WindowPort.state c.data_of.new.own)) _ alone c.data_of.ensures.same refl c.data_of.ensures.rest
+    (own_by c.data_of.new.self end (g.O.WindowPort.state c.data_of.new.own)) (steps.Ends (outcomes.Data _ _)) alone refl c.data_of.ensures.same refl c.data_of.ensures.rest
 
 pub returns-in-Err-Unknown-clause-plainly : goal.returns-in-Err-Unknown-clause-plainly
 returns-in-Err-Unknown-clause-plainly g c = λ alone end p.
     data_steps g.O.WindowPort.is_shared c.args.tag p (own_by c.args.self.now.client end (g.O.WindowPort.state c.args.own.now))
-    (own_by c.data_of.new.self end (g.O.WindowPort.state c.data_of.new.own)) _ alone c.data_of.ensures.same refl c.data_of.ensures.rest
+    (own_by c.data_of.new.self end (g.O.WindowPort.state c.data_of.new.own)) (steps.Ends outcomes.Unknown) alone refl c.data_of.ensures.same refl c.data_of.ensures.rest
 
 pub returns-in-Err-Stale-clause-plainly : goal.returns-in-Err-Stale-clause-plainly
 returns-in-Err-Stale-clause-plainly g c = λ alone end p.
     data_steps g.O.WindowPort.is_shared c.args.tag p (own_by c.args.self.now.client end (g.O.WindowPort.state c.args.own.now))
-    (own_by c.data_of.new.self end (g.O.WindowPort.state c.data_of.new.own)) _ alone c.data_of.ensures.same refl c.data_of.ensures.rest
+    (own_by c.data_of.new.self end (g.O.WindowPort.state c.data_of.new.own)) (steps.Ends (outcomes.Stale _)) alone refl c.data_of.ensures.same refl c.data_of.ensures.rest
 
 pub returns-in-Err-InUse-clause-plainly : goal.returns-in-Err-InUse-clause-plainly
 returns-in-Err-InUse-clause-plainly g c = λ alone end p.
     data_steps g.O.WindowPort.is_shared c.args.tag p (own_by c.args.self.now.client end (g.O.WindowPort.state c.args.own.now))
-    (own_by c.data_of.new.self end (g.O.WindowPort.state c.data_of.new.own)) _ alone c.data_of.ensures.same refl c.data_of.ensures.rest
+    (own_by c.data_of.new.self end (g.O.WindowPort.state c.data_of.new.own)) (steps.Waits Quiet) alone tt c.data_of.ensures.same refl c.data_of.ensures.rest
 
 pub returns-in-Err-NoMemory-clause-plainly : goal.returns-in-Err-NoMemory-clause-plainly
 returns-in-Err-NoMemory-clause-plainly g c = λ alone end p plain granted unit server server' now spares stays talks come. tt

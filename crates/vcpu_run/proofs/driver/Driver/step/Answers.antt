@@ -769,16 +769,17 @@ returns-in-Data-clause-plainly g c = λ crq_alone own_alone. steps_as c.args.lin
 
 pub returns-in-Fill-clause-plainly : goal.returns-in-Fill-clause-plainly
 returns-in-Fill-clause-plainly g c = λ crq_alone own_alone. steps_as c.args.line.now.verb _ c.args.progress.now c.args.progress.now (own_by c.args.self.now.client (g.C.CrqEnd.state c.args.crq.now.end) (g.O.WindowPort.state c.args.own.now)) (own_by c.args.self.now.client (g.C.CrqEnd.state c.args.crq.now.end) (g.O.WindowPort.state c.fill.new.own)) c.fill.result c.in-Fill.is
-    (fill_plainly g.O.WindowPort.is_shared c.in-Fill.at c.in-Fill.len c.in-Fill.seed c.from-mark.result c.args.progress.now (own_by c.args.self.now.client (g.C.CrqEnd.state c.args.crq.now.end) (g.O.WindowPort.state c.args.own.now)) (own_by c.args.self.now.client (g.C.CrqEnd.state c.args.crq.now.end) (g.O.WindowPort.state c.fill.new.own)) c.fill.result own_alone refl refl c.fill.ensures.rest c.fill.ensures.lays c.fill.ensures.answer)
+    (fill_plainly g.O.WindowPort.is_shared c.in-Fill.at c.in-Fill.len c.in-Fill.seed c.from-mark.result c.args.progress.now (own_by c.args.self.now.client (g.C.CrqEnd.state c.args.crq.now.end) (g.O.WindowPort.state c.args.own.now)) (own_by c.args.self.now.client (g.C.CrqEnd.state c.args.crq.now.end) (g.O.WindowPort.state c.fill.new.own)) c.fill.result own_alone c.fill.ensures.plain refl refl c.fill.ensures.rest c.fill.ensures.lays c.fill.ensures.answer)
 
 pub returns-in-Poke-clause-plainly : goal.returns-in-Poke-clause-plainly
 returns-in-Poke-clause-plainly g c = λ crq_alone own_alone. steps_as c.args.line.now.verb (verbs.Poke c.in-Poke.at c.as_slice.result.now) c.args.progress.now c.args.progress.now (own_by c.args.self.now.client (g.C.CrqEnd.state c.args.crq.now.end) (g.O.WindowPort.state c.args.own.now)) (own_by c.args.self.now.client (g.C.CrqEnd.state c.args.crq.now.end) (g.O.WindowPort.state c.poke.new.own)) c.poke.result (c.in-Poke.is ∙ ap (λ (bytes : List ℕ). verbs.Poke c.in-Poke.at bytes) (sym c.as_slice.ensures))
-    (poke_plainly g.O.WindowPort.is_shared c.in-Poke.at c.from-mark.result c.as_slice.result.now c.args.progress.now (own_by c.args.self.now.client (g.C.CrqEnd.state c.args.crq.now.end) (g.O.WindowPort.state c.args.own.now)) (own_by c.args.self.now.client (g.C.CrqEnd.state c.args.crq.now.end) (g.O.WindowPort.state c.poke.new.own)) c.poke.result own_alone refl refl c.poke.ensures.rest c.poke.ensures.lays c.poke.ensures.answer)
+    (poke_plainly g.O.WindowPort.is_shared c.in-Poke.at c.from-mark.result c.as_slice.result.now c.args.progress.now (own_by c.args.self.now.client (g.C.CrqEnd.state c.args.crq.now.end) (g.O.WindowPort.state c.args.own.now)) (own_by c.args.self.now.client (g.C.CrqEnd.state c.args.crq.now.end) (g.O.WindowPort.state c.poke.new.own)) c.poke.result own_alone c.poke.ensures.plain refl refl c.poke.ensures.rest c.poke.ensures.lays c.poke.ensures.answer)
 
 pub returns-in-Peek-clause-plainly : goal.returns-in-Peek-clause-plainly
 returns-in-Peek-clause-plainly g c = λ crq_alone own_alone. steps_as c.args.line.now.verb _ c.args.progress.now c.args.progress.now (own_by c.args.self.now.client (g.C.CrqEnd.state c.args.crq.now.end) (g.O.WindowPort.state c.args.own.now)) (own_by c.args.self.now.client (g.C.CrqEnd.state c.args.crq.now.end) (g.O.WindowPort.state c.peek.new.own)) c.peek.result c.in-Peek.is
-    (peek_plainly g.O.WindowPort.is_shared c.in-Peek.at c.in-Peek.len c.args.progress.now (own_by c.args.self.now.client (g.C.CrqEnd.state c.args.crq.now.end) (g.O.WindowPort.state c.args.own.now)) (own_by c.args.self.now.client (g.C.CrqEnd.state c.args.crq.now.end) (g.O.WindowPort.state c.peek.new.own)) c.peek.result own_alone refl refl c.peek.ensures.rest)
+    (peek_plainly g.O.WindowPort.is_shared c.in-Peek.at c.in-Peek.len c.args.progress.now (own_by c.args.self.now.client (g.C.CrqEnd.state c.args.crq.now.end) (g.O.WindowPort.state c.args.own.now)) (own_by c.args.self.now.client (g.C.CrqEnd.state c.args.crq.now.end) (g.O.WindowPort.state c.peek.new.own)) c.peek.result own_alone c.peek.ensures.plain refl refl c.peek.ensures.rest)
 
 pub returns-in-Tce-clause-plainly : goal.returns-in-Tce-clause-plainly
 returns-in-Tce-clause-plainly g c = λ crq_alone own_alone. steps_as c.args.line.now.verb _ c.args.progress.now c.args.progress.now (own_by c.args.self.now.client (g.C.CrqEnd.state c.args.crq.now.end) (g.O.WindowPort.state c.args.own.now)) (own_by c.args.self.now.client (g.C.CrqEnd.state c.args.crq.now.end) (g.O.WindowPort.state c.put_tce.new.own)) c.put_tce.result c.in-Tce.is
-    (tce_plainly c.in-Tce.entry c.in-Tce.page c.in-Tce.readable c.in-Tce.writable c.args.progress.now c.args.progress.now (own_by c.args.self.now.client (g.C.CrqEnd.state c.args.crq.now.end) (g.O.WindowPort.state c.args.own.now)) (own_by c.args.self.now.client (g.C.CrqEnd.state c.args.crq.now.end) (g.O.WindowPort.state c.put_tce.new.own)) c.put_tce.result)
+    (tce_plainly g.O.WindowPort.is_shared c.in-Tce.entry c.in-Tce.page c.in-Tce.readable c.in-Tce.writable c.args.progress.now (own_by c.args.self.now.client (g.C.CrqEnd.state c.args.crq.now.end) (g.O.WindowPort.state c.args.own.now)) (own_by c.args.self.now.client (g.C.CrqEnd.state c.args.crq.now.end) (g.O.WindowPort.state c.put_tce.new.own)) c.put_tce.result own_alone c.put_tce.ensures.plain refl refl
+    c.put_tce.ensures.window.place c.put_tce.ensures.marks c.put_tce.ensures.answer)

@@ -20,6 +20,8 @@ use Rattle.crq_session.specs.declared.side.PlainSide.{PlainSide}
 use Rattle.crq_ring.specs.declared.rows.PipeRow.{PipeRow}
 use Rattle.block_server.specs.Answering.{AnswersMore, OnlyRowsOf}
 use Rattle.block_server.specs.Turns.{IsStill}
+use Rattle.block_server.specs.Receipts.{LinesMore}
+use Rattle.block_server.specs.Units.{grant_of}
 use Rattle.vcpu_run.specs.declared.pair.Pair.{Pair}
 use Rattle.vcpu_run.specs.Answered.{AreBegun, IsAnswered}
 use Rattle.tce_window.specs.PlainPort.{known_of}
@@ -389,6 +391,7 @@ returns-clause-plainly g c =
     let server = c.args.server.now in
     let server' = c.turn.new.self in
     let unit = c.args.unit in
+    let name = c.args.self.now.own.unit in
     let link = c.turn.new.crq.end.link.now in
     let goes = c.turn.ensures.goes in
     let books = books_of server.units.items server.records.grants.items server.records.history.items in
@@ -399,7 +402,7 @@ returns-clause-plainly g c =
     let before : state_of c.side.result ≡ end_of lent old.link true =
     ap (λ (b : Bool). end_of lent c.side.result.link.now b) c.side.ensures.first ∙ ap (λ (l : PlainLink). end_of lent l true) c.side.ensures.link in
     let after : state_of c.turn.new.crq.end ≡ end_of back link true = ap (λ (b : Bool). end_of back link b) first in
-    let turns = turns_ok c.turn.result books books' unit (state_of c.side.result) (state_of c.turn.new.crq.end) (known_of old.window) (known_of c.turn.new.client)
+    let turns = turns_ok c.turn.result name books books' unit (state_of c.side.result) (state_of c.turn.new.crq.end) (known_of old.window) (known_of c.turn.new.client)
     c.turn.ensures.talks c.turn.ensures.places c.turn.ensures.leaves c.turn.ensures.rows c.turn.ensures.opens
     (ids_stay _ _ _ _ server.partition server'.partition server.units.items server'.units.items server.records server'.records c.turn.ensures.partition server.serving server'.serving unit)
     goes.queue_place (c.turn.ensures.partner refl) goes.put c.turn.new.crq.behind.low goes.client_place in
@@ -407,10 +410,11 @@ returns-clause-plainly g c =
     subst (λ (l : PlainLink). OnOk c.turn.result (ServesPlainly server.partition books books' unit old
     (record { server = old.server; link = l; own = c.turn.new.own; window = c.turn.new.client; driver = old.driver }))) link_is
     (ok_then c.turn.result _ _
-    (λ on granted is. served_pair granted server.partition unit books books' lent back old
+    (λ on granted told is. served_pair granted told server.partition unit _ name books books' lent back old
     (record { server = old.server; link = link; own = c.turn.new.own; window = c.turn.new.client; driver = old.driver }) refl
-    (subst (λ (end : EndState). TurnsOn books books' unit end (end_of back link true) (known_of old.window) (known_of c.turn.new.client)) before
-    (subst (λ (end : EndState). TurnsOn books books' unit (state_of c.side.result) end (known_of old.window) (known_of c.turn.new.client)) after on)) is)
+    (subst (λ (id : UnitId). ∥ LinesMore id (grant_of server.units.items unit) books.lines books'.lines ∥₁) (c.requires.pair.own_unit ∙ c.requires.pair.server) c.turn.ensures.lines)
+    (subst (λ (end : EndState). TurnsOn name books books' unit end (end_of back link true) (known_of old.window) (known_of c.turn.new.client)) before
+    (subst (λ (end : EndState). TurnsOn name books books' unit (state_of c.side.result) end (known_of old.window) (known_of c.turn.new.client)) after on)) is)
     turns)
 
 pub returns-clause-idles : goal.returns-clause-idles
@@ -419,6 +423,7 @@ returns-clause-idles g c =
     let server = c.args.server.now in
     let server' = c.turn.new.self in
     let unit = c.args.unit in
+    let name = c.args.self.now.own.unit in
     let link = c.turn.new.crq.end.link.now in
     let goes = c.turn.ensures.goes in
     let books = books_of server.units.items server.records.grants.items server.records.history.items in
@@ -429,15 +434,15 @@ returns-clause-idles g c =
     let before : state_of c.side.result ≡ end_of lent old.link true =
     ap (λ (b : Bool). end_of lent c.side.result.link.now b) c.side.ensures.first ∙ ap (λ (l : PlainLink). end_of lent l true) c.side.ensures.link in
     let after : state_of c.turn.new.crq.end ≡ end_of back link true = ap (λ (b : Bool). end_of back link b) first in
-    let turns = turns_ok c.turn.result books books' unit (state_of c.side.result) (state_of c.turn.new.crq.end) (known_of old.window) (known_of c.turn.new.client)
+    let turns = turns_ok c.turn.result name books books' unit (state_of c.side.result) (state_of c.turn.new.crq.end) (known_of old.window) (known_of c.turn.new.client)
     c.turn.ensures.talks c.turn.ensures.places c.turn.ensures.leaves c.turn.ensures.rows c.turn.ensures.opens
     (ids_stay _ _ _ _ server.partition server'.partition server.units.items server'.units.items server.records server'.records c.turn.ensures.partition server.serving server'.serving unit)
     goes.queue_place (c.turn.ensures.partner refl) goes.put c.turn.new.crq.behind.low goes.client_place in
     idle_ok c.turn.result (λ moved. moved ≡ Quiet) _ _ _ _
-    (λ on still way granted is. idles_pair granted server.partition unit books books' lent back old
+    (λ on still way granted told is. idles_pair granted told server.partition unit name books books' lent back old
     (record { server = old.server; link = link; own = c.turn.new.own; window = c.turn.new.client; driver = old.driver })
-    (subst (λ (end : EndState). TurnsOn books books' unit end (end_of back link true) (known_of old.window) (known_of c.turn.new.client)) before
-    (subst (λ (end : EndState). TurnsOn books books' unit (state_of c.side.result) end (known_of old.window) (known_of c.turn.new.client)) after on))
+    (subst (λ (end : EndState). TurnsOn name books books' unit end (end_of back link true) (known_of old.window) (known_of c.turn.new.client)) before
+    (subst (λ (end : EndState). TurnsOn name books books' unit (state_of c.side.result) end (known_of old.window) (known_of c.turn.new.client)) after on))
     (subst (λ (end : EndState). IsStill end (end_of back link true)) before (subst (λ (end : EndState). IsStill (state_of c.side.result) end) after still))
     way is)
     turns c.turn.ensures.quiet c.turn.ensures.way

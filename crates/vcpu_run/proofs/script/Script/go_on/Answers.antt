@@ -16,6 +16,7 @@ use Rattle.vcpu_run.proofs.Logging.{script_stays}
 use Rattle.vcpu_run.proofs.Held.{none_held, turned_held}
 use Rattle.vcpu_run.proofs.PortsTelling.{rest_tells}
 use Rattle.vcpu_run.proofs.Elsewhere.{ok_then}
+use Rattle.vcpu_run.proofs.Fetching.{ok_pair}
 use Rattle.vcpu_run.specs.PortsRest.{PortsRest}
 use Rattle.vcpu_run.proofs.PlainTurning.{rests_plainly, rests_quietly}
 use Rattle.vcpu_run.proofs.script.Script.go_on.Goals as goal
@@ -101,9 +102,9 @@ pub returns-in-None-clause-plainly : goal.returns-in-None-clause-plainly
 returns-in-None-clause-plainly c =
     let over : length c.args.self.now.lines.now ≤ c.args.self.now.at = over_by c.args.self.now.at (length c.args.self.now.lines.now) (sym c.get.ensures.lookup.0 ∙ ap is_some c.in-None.is) in
     ok_then c.take_rest.result _ _
-    (λ rests.
-    rests_plainly c.args.pairs.now c.take_rest.new.pairs c.args.self.now (slice_get_past c.args.self.now.lines.now c.args.self.now.at over) c.requires.script.seats c.take_rest.ensures.driven rests)
-    c.take_rest.ensures.plainly
+    (λ both.
+    rests_plainly c.args.pairs.now c.take_rest.new.pairs c.args.self.now (slice_get_past c.args.self.now.lines.now c.args.self.now.at over) c.requires.script.seats c.take_rest.ensures.driven both.0 both.1)
+    (ok_pair c.take_rest.result _ _ c.take_rest.ensures.plainly c.take_rest.ensures.gives)
 
 pub returns-in-None-clause-quiets : goal.returns-in-None-clause-quiets
 returns-in-None-clause-quiets c =

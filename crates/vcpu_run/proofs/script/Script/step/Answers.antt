@@ -187,7 +187,7 @@ returns-in_ok-end-in-Ends c =
       plainly =
           ends_plainly c.args.pairs.now c.step_unit.new.pairs c.args.self.now c.end.new.self c.step_unit.new.progress c.args.line.now
           (record { partition = c.args.self.now.partition; line = c.args.line.now.number; outcome = c.in-Ends.outcome })
-          c.requires.line line.suited c.requires.script.seats c.step_unit.ensures.driven
+          c.requires.line (one_unit c.args.line.now.verb c.in_default.not-Fail) line.suited c.requires.script.seats c.step_unit.ensures.driven
           (c.requires.script.logs.reached (slice_get_within c.args.self.now.lines.now c.args.self.now.at c.args.line.now c.requires.line))
           (λ no.
           (subst (λ (st : Step). LineTold c.args.self.now.seats.items c.args.line.now c.args.self.now.progress c.step_unit.new.progress c.args.pairs.now c.step_unit.new.pairs (Ok st)) c.in-Ends.is
@@ -271,7 +271,7 @@ returns-in-Waits c =
       quiet = λ is over. let less = slice_get_within c.args.self.now.lines.now c.args.self.now.at c.args.line.now c.requires.line in omega (arith, less, over);
       plainly =
           waits_plainly c.args.pairs.now c.step_unit.new.pairs c.args.self.now c.step_unit.new.progress c.args.line.now c.in-Waits.moved
-          c.requires.line line.suited c.requires.script.seats c.step_unit.ensures.driven
+          c.requires.line (one_unit c.args.line.now.verb c.in_default.not-Fail) line.suited c.requires.script.seats c.step_unit.ensures.driven
           (λ no.
           (subst (λ (st : Step). LineTold c.args.self.now.seats.items c.args.line.now c.args.self.now.progress c.step_unit.new.progress c.args.pairs.now c.step_unit.new.pairs (Ok st)) c.in-Waits.is
           (rw (← c.deref.ensures.value) (c.in_ok-step.ensures.said (all_at (λ (l : Line). is_call l.verb ≡ false) c.args.self.now.lines.now c.args.self.now.at c.args.line.now c.requires.line no)))))
@@ -280,7 +280,7 @@ returns-in-Waits c =
           (rw (← c.deref.ensures.value) (c.in_ok-step.ensures.plainly (all_at (λ (l : Line). is_call l.verb ≡ false) c.args.self.now.lines.now c.args.self.now.at c.args.line.now c.requires.line no)))));
       quiets = λ is.
           waits_quietly c.args.pairs.now c.step_unit.new.pairs c.args.self.now c.step_unit.new.progress c.args.line.now
-          c.requires.line line.suited c.requires.script.seats c.step_unit.ensures.driven
+          c.requires.line (one_unit c.args.line.now.verb c.in_default.not-Fail) line.suited c.requires.script.seats c.step_unit.ensures.driven
           (λ no.
           (subst (λ (st : Step). LineTold c.args.self.now.seats.items c.args.line.now c.args.self.now.progress c.step_unit.new.progress c.args.pairs.now c.step_unit.new.pairs (Ok st)) (c.in-Waits.is ∙ ap (λ m. steps.Waits m) is)
           (rw (← c.deref.ensures.value) (c.in_ok-step.ensures.said (all_at (λ (l : Line). is_call l.verb ≡ false) c.args.self.now.lines.now c.args.self.now.at c.args.line.now c.requires.line no)))))

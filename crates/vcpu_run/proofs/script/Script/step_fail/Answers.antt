@@ -22,7 +22,7 @@ use Rattle.vcpu_run.specs.CallsSaid.{seen_from}
 use Rattle.vcpu_run.proofs.CallsKept.{fails_no_call, says_none}
 use Rattle.vcpu_run.proofs.PortsTelling.{failed_tells, failing_tells}
 use Rattle.vcpu_run.specs.PortWords.{done_in}
-use Rattle.vcpu_run.proofs.PlainTurning.{fails_plainly, fails_quietly}
+use Rattle.vcpu_run.proofs.PlainDown.{fails_ends, fails_quietly, fails_waits}
 use Rattle.vcpu_run.proofs.script.Script.step_fail.Goals as goal
 
 pub fail-requires-clause-few : goal.fail-requires-clause-few
@@ -163,13 +163,24 @@ returns-clause-logged c = λ copies made is. record {
 }
 
 pub returns-then-branch-clause-plainly : goal.returns-then-branch-clause-plainly
-returns-then-branch-clause-plainly c = fails_plainly c.args.pairs.now c.fail.new.pairs c.args.self.now c.end.new.self c.args.line.now c.requires.line c.requires.fails
+returns-then-branch-clause-plainly c =
+    let over : c.end.new.self.at ≡ length c.end.new.self.lines.now =
+    c.in_ok-end.ensures.at ∙ (ap (λ b. cond b (length c.args.self.now.lines.now) (c.args.self.now.at + 1)) c.requires.fails
+    ∙ sym (ap (λ lines. length lines.now) c.end.ensures.rest.lines)) in
+    fails_ends c.args.pairs.now c.fail.new.pairs c.args.self.now c.end.new.self c.args.line.now
+    (record { partition = c.args.self.now.partition; line = c.args.line.now.number; outcome = outcomes.Done })
+    c.requires.line c.requires.fails c.requires.script.seats c.fail.ensures.driven c.in_ok-fail.ensures.plainly c.in_ok-fail.ensures.gives
+    (subst (λ (seats : List Seat). SeatsShut seats c.fail.new.pairs) c.deref.ensures.value (c.in_ok-fail.ensures.down (grind arith)))
+    (c.requires.script.logs.reached (slice_get_within c.args.self.now.lines.now c.args.self.now.at c.args.line.now c.requires.line))
+    c.end.ensures.rest.lines c.in_ok-end.ensures.ended.logs refl over
 
 pub returns-clause-plainly : goal.returns-clause-plainly
-returns-clause-plainly c = fails_plainly c.args.pairs.now c.fail.new.pairs c.args.self.now c.args.self.now c.args.line.now c.requires.line c.requires.fails
+returns-clause-plainly c =
+    fails_waits c.args.pairs.now c.fail.new.pairs c.args.self.now c.args.line.now c.requires.line c.requires.fails c.requires.script.seats c.fail.ensures.driven
+    c.in_ok-fail.ensures.plainly c.in_ok-fail.ensures.gives
 
 pub returns-then-branch-clause-quiets : goal.returns-then-branch-clause-quiets
 returns-then-branch-clause-quiets c = λ is. absurd (not_quiet is)
 
 pub returns-clause-quiets : goal.returns-clause-quiets
-returns-clause-quiets c = λ is. fails_quietly c.args.pairs.now c.fail.new.pairs c.args.self.now c.args.self.now c.args.line.now c.requires.line c.requires.fails
+returns-clause-quiets c = λ is. fails_quietly c.args.pairs.now c.fail.new.pairs c.args.self.now c.args.line.now c.requires.line c.requires.fails
