@@ -17,6 +17,7 @@ use Rattle.block_disk.specs.Steps.{IsStep}
 use Rattle.block_disk.specs.declared.command.DiskOp.{DiskOp}
 use Rattle.block_disk.specs.declared.command.DiskOp.TheVariants.{Ready, Inquiry, Capacity10, Capacity16, Luns, Read, Write, Sync}
 use Rattle.block_disk.specs.declared.reply.ScsiReply.{ScsiReply}
+use Rattle.block_server.specs.Formed.{IsFormed}
 use Rattle.block_server.specs.Causes.{RefusesIn, told_to}
 use Rattle.block_server.specs.DiskLaw.{HasData, IsStepped, SaysCode, ServesRowBy, handed_over, step_of}
 use Rattle.block_server.specs.Orders.{IsCauseOf, IsCodeOf, IsOrder}
@@ -144,42 +145,65 @@ module _ (one : SpellsOne) (terms : Terms) (command : Cmd) (reply : ScsiReply) (
   -- the answer says the status, where the row has all data-in
   pub may_status : length row.inn ≡ handed_over command reply → (bytes : List ℕ)
       → Answers bytes (HasStatus (field 8 8 row.iu) (total_of command.out) (total_of command.inn) reply) → MayAnswer terms bytes row
-  may_status all_in bytes says b a size is =
-      let made = made_of one terms command reply row known b a size is in
-      inl (record {
-        command = command;
-        spells = known.spells;
-        brought = known.brought;
-        reply = reply;
-        given = made.given;
-        step = made.step;
-        fault = known.fault_is;
-        inn = made.inn;
-        few = known.few;
-        answer = inr (inl (record { all_in = all_in; answer = says }));
-      })
+  may_status all_in bytes says = record {
+    law = λ b a size is.
+        let made = made_of one terms command reply row known b a size is in
+        inl (record {
+          command = command;
+          spells = known.spells;
+          brought = known.brought;
+          reply = reply;
+          given = made.given;
+          step = made.step;
+          fault = known.fault_is;
+          inn = made.inn;
+          few = known.few;
+          answer = inr (inl (record { all_in = all_in; answer = says }));
+        });
+    form = inl (record {
+      command = command;
+      spells = known.spells;
+      brought = known.brought;
+      reply = reply;
+      reply_is = known.reply_is;
+      few = known.few;
+      answer = inr (inl (record { all_in = all_in; answer = says }));
+    });
+  }
 
   -- the answer says that the data-in were refused
   pub may_refuse : RefusesIn (told_to terms.told row.unit) command → 0 < handed_over command reply → (bytes : List ℕ) → Answers bytes (HasCode (field 8 8 row.iu) FieldsInvalid) → MayAnswer terms bytes row
-  may_refuse cause some bytes says b a size is =
-      let made = made_of one terms command reply row known b a size is in
+  may_refuse cause some bytes says =
       let given : 0 < (reply_to terms.size command.lun command.cdb (length row.out) row.fault).in_len =
       subst (λ (r : ScsiReply). 0 < r.in_len) known.reply_is (omega (arith, some)) in
       let none : reply.fault ≡ None =
       ap (λ (r : ScsiReply). r.fault) known.reply_is
       ∙ sound (refusal command.lun command.cdb) (command_of command.cdb) terms.size (length row.out) row.fault given in
-      inl (record {
-        command = command;
-        spells = known.spells;
-        brought = known.brought;
-        reply = reply;
-        given = made.given;
-        step = made.step;
-        fault = known.fault_is;
-        inn = made.inn;
-        few = known.few;
-        answer = inr (inr (record { cause = cause; some = some; no_fault = sym known.fault_is ∙ none; answer = says }));
-      })
+      record {
+        law = λ b a size is.
+            let made = made_of one terms command reply row known b a size is in
+            inl (record {
+              command = command;
+              spells = known.spells;
+              brought = known.brought;
+              reply = reply;
+              given = made.given;
+              step = made.step;
+              fault = known.fault_is;
+              inn = made.inn;
+              few = known.few;
+              answer = inr (inr (record { cause = cause; some = some; no_fault = sym known.fault_is ∙ none; answer = says }));
+            });
+        form = inl (record {
+          command = command;
+          spells = known.spells;
+          brought = known.brought;
+          reply = reply;
+          reply_is = known.reply_is;
+          few = known.few;
+          answer = inr (inr (record { cause = cause; some = some; no_fault = sym known.fault_is ∙ none; answer = says }));
+        });
+      }
 
   -- its data-in are cut
   pub may_cut : (n : ℕ) → row.answer ≡ [] → (b a : List (List ℕ)) → length b ≡ terms.size → ServesRowBy terms.told b row a → ServesRowBy terms.told b (record row { inn = take n row.inn }) a
@@ -224,9 +248,27 @@ code_row terms orders.Unreadable code row b order is cause out inn fault says =
 code_row terms (orders.Login request) code row b order is cause out inn fault says = absurd is
 code_row terms orders.Logout code row b order is cause out inn fault says = absurd is
 
+-- and it is in form
+code_form : (terms : Terms) (order : Order) (code : ResponseCode) (row : Served) → IsOrder order row.iu → IsCodeOf order code → IsCauseOf (told_to terms.told row.unit) order
+    → row.out ≡ [] → row.inn ≡ [] → row.fault ≡ None → SaysCode code row → IsFormed terms.size terms.told row
+code_form terms (orders.Task task) code row order is cause out inn fault says =
+    let says' : SaysCode _ row = subst (λ (c : ResponseCode). SaysCode c row) is says in
+    inr (inr (inl (record { task = task; spells = order; none = record { out = out; inn = inn; fault = fault; answer = says' } })))
+code_form terms (orders.Command command) code row order is cause out inn fault says =
+    let says' : SaysCode FieldsInvalid row = subst (λ (c : ResponseCode). SaysCode c row) is says in
+    inr (inl (record { command = command; spells = order; cause = cause; none = record { out = out; inn = inn; fault = fault; answer = says' } }))
+code_form terms orders.Unreadable code row order is cause out inn fault says =
+    let says' : SaysCode FieldsInvalid row = subst (λ (c : ResponseCode). SaysCode c row) is says in
+    inr (inr (inr (record { unread = order; none = record { out = out; inn = inn; fault = fault; answer = says' } })))
+code_form terms (orders.Login request) code row order is cause out inn fault says = absurd is
+code_form terms orders.Logout code row order is cause out inn fault says = absurd is
+
 -- it may get that answer
 pub may_code : (order : Order) (code : ResponseCode) (row : Served) (terms : Terms) (bytes : List ℕ) → IsOrder order row.iu → IsCodeOf order code
     → IsCauseOf (told_to terms.told row.unit) order → row.out ≡ [] → row.inn ≡ [] → row.fault ≡ None → Answers bytes (HasCode (field 8 8 row.iu) code) → MayAnswer terms bytes row
-may_code order code row terms bytes spelled is cause out inn fault says b a size serves =
-    subst (λ (x : List (List ℕ)). ServesRowBy terms.told b (record row { answer = bytes }) x) (sym (row_still terms.told b row a out fault serves))
-    (code_row terms order code (record row { answer = bytes }) b spelled is cause out inn fault says)
+may_code order code row terms bytes spelled is cause out inn fault says = record {
+  law = λ b a size serves.
+      subst (λ (x : List (List ℕ)). ServesRowBy terms.told b (record row { answer = bytes }) x) (sym (row_still terms.told b row a out fault serves))
+      (code_row terms order code (record row { answer = bytes }) b spelled is cause out inn fault says);
+  form = code_form terms order code (record row { answer = bytes }) spelled is cause out inn fault says;
+}

@@ -217,7 +217,7 @@ opens_unmoved unit u1 unit' r0 r2 lines lines' rows rows' id logins is = record 
   rows_are = is.rows_are;
 }
 
-some_unit : (found unit : Unit) → Some found ≡ Some unit → found ≡ unit
+pub some_unit : (found unit : Unit) → Some found ≡ Some unit → found ≡ unit
 some_unit found unit same = cc (same)
 
 -- of the unit of a number

@@ -110,7 +110,7 @@ laid_first Hears unit id found request place made rows mid new k0 k1 k2 same has
 -- THE OLDEST REQUEST -----------------------------------------------------------------------------
 
 -- an answer that is made and not yet copied is to be
-made_at : (on : LoginState) (request : Request) (stage : Stage) (made : List ℕ) → is_answered stage ≡ true → HasAnswerAt on request stage made → (outcome : Outcome) × (stage ≡ stages.Answer outcome)
+pub made_at : (on : LoginState) (request : Request) (stage : Stage) (made : List ℕ) → is_answered stage ≡ true → HasAnswerAt on request stage made → (outcome : Outcome) × (stage ≡ stages.Answer outcome)
 made_at on request (stages.Answer outcome) made answered has = (outcome, refl)
 made_at on request (stages.Entry outcome) made answered has = absurd has
 made_at on request stages.Start made answered has = absurd (cc (answered))

@@ -1,4 +1,12 @@
 pub mod Advancing
+pub mod Doings
+pub mod DoingEnds
+pub mod DoingHears
+pub mod DoingAsides
+pub mod DoingAnswers
+pub mod DoingServes
+pub mod Asides
+pub mod Telling
 pub mod Placing
 pub mod DataPages
 pub mod DataCopies

@@ -107,7 +107,7 @@ once_same a b s s' h h' same rows put d serving = record {
   answers = more_none a.id s s' h h' put (ap (answers_of a.id) rows);
   others = subst (OnlyRowsOf a.id h) (sym rows) (stays_same a.id h);
   stays = stays_equal d h h' rows;
-  written = written_same d.terms.told h h' rows;
+  written = written_same d.terms.size d.terms.told h h' rows;
   tells = tells_same d.now;
 }
 
@@ -186,10 +186,10 @@ known_of terms p h row reply is made = record {
 module _ (one : SpellsOne) (d : Held) (a : Desk) (h h' : List ServedRow) (serving : IsServing d.terms a h) where
   -- what is so of the rows that it leaves
   abbrev Leaves : Type 0
-  Leaves = (answers_of a.id h' ≡ answers_of a.id h) × OnlyRowsOf a.id h h' × StaysServed d d h h' × (AreWritten d.terms.told h → AreWritten d.terms.told h')
+  Leaves = (answers_of a.id h' ≡ answers_of a.id h) × OnlyRowsOf a.id h h' × StaysServed d d h h' × (AreWritten d.terms.size d.terms.told h → AreWritten d.terms.size d.terms.told h')
 
   left_same : h' ≡ h → Leaves
-  left_same same = (ap (answers_of a.id) same, subst (OnlyRowsOf a.id h) (sym same) (stays_same a.id h), stays_equal d h h' same, written_same d.terms.told h h' same)
+  left_same same = (ap (answers_of a.id) same, subst (OnlyRowsOf a.id h) (sym same) (stays_same a.id h), stays_equal d h h' same, written_same d.terms.size d.terms.told h h' same)
 
   left_cut : (at : ℕ) (reply : ScsiReply) (p : Place) → p.id ≡ a.id → p.given ≡ a.buffers.given → (row : IsServed d.terms p h at)
       → HasReply d.terms row.request p.given reply row.in_service.served
@@ -207,7 +207,7 @@ module _ (one : SpellsOne) (d : Held) (a : Desk) (h h' : List ServedRow) (servin
         only_there a.id iu h h' at is (record is.served { inn = inn }) is.unit_is refl there,
         stays_there d h h' row.in_service.before row.in_service.behind row.in_service.served new row.in_service.history_is there'
             (may_cut one d.terms made.command reply row.in_service.served (known_of d.terms p h at reply row made) leaves.0 row.in_service.unanswered),
-        written_there d.terms.told h h' row.in_service.before row.in_service.behind row.in_service.served new row.in_service.history_is there' (λ is. is),
+        written_there d.terms.size d.terms.told h h' row.in_service.before row.in_service.behind row.in_service.served new row.in_service.history_is there' (λ was. inl row.in_service.unanswered),
       )
 
   broken : (stage : Stage) → stage ≡ a.stage → IfRow stage (IsServed d.terms (record { id = a.id; stage = stage; answer = a.answer; given = a.buffers.given; pending = a.pending }) h)
@@ -250,7 +250,7 @@ once_cleared a b s s' h h' id stage kept rows put d pending serving = record {
   answers = more_none a.id s s' h h' put (ap (answers_of a.id) rows);
   others = subst (OnlyRowsOf a.id h) (sym rows) (stays_same a.id h);
   stays = stays_equal d h h' rows;
-  written = written_same d.terms.told h h' rows;
+  written = written_same d.terms.size d.terms.told h h' rows;
   tells = tells_same d.now;
 }
 
@@ -272,7 +272,7 @@ once_goes a b s s' h h' id kept rows put d row fetched brought offer = record {
   answers = more_none a.id s s' h h' put (ap (answers_of a.id) rows);
   others = subst (OnlyRowsOf a.id h) (sym rows) (stays_same a.id h);
   stays = stays_equal d h h' rows;
-  written = written_same d.terms.told h h' rows;
+  written = written_same d.terms.size d.terms.told h h' rows;
   tells = tells_same d.now;
 }
 
@@ -376,9 +376,9 @@ module _ (a b : Desk) (s s' : List PipeRow) (h h' : List ServedRow) (put : PipeR
         };
         others = only_there a.id iu h h' row in_service (record in_service.served { answer = a.answer }) in_service.unit_is refl there;
         stays = stays_there d h h' is.in_service.before is.in_service.behind is.in_service.served (record is.in_service.served { answer = a.answer })
-            is.in_service.history_is (answered_there p.id iu h h' row a.answer is.in_service answers) may.may;
-        written = written_there d.terms.told h h' is.in_service.before is.in_service.behind is.in_service.served (record is.in_service.served { answer = a.answer })
-            is.in_service.history_is (answered_there p.id iu h h' row a.answer is.in_service answers) (λ was. inr may.over);
+            is.in_service.history_is (answered_there p.id iu h h' row a.answer is.in_service answers) may.may.law;
+        written = written_there d.terms.size d.terms.told h h' is.in_service.before is.in_service.behind is.in_service.served (record is.in_service.served { answer = a.answer })
+            is.in_service.history_is (answered_there p.id iu h h' row a.answer is.in_service answers) (λ was. inr (may.over, may.may.form));
         tells = tells_same d.now;
       }
     where

@@ -3,13 +3,14 @@ use Rattle.std.proofs.Common.{◌≡◌, ◌⊎◌, inl, inr, ◌↔◌, ◌+◌
 use Rattle.std.proofs.lemmas.Bool.{eqb-true}
 use Rattle.byteorder.specs.Endian.{big_bytes}
 use Rattle.vio_num.specs.declared.entry.Entry.{Entry}
-use Rattle.vio_num.specs.Entry.{first_byte, initialize, initialization_complete, iu_length, partner_freed, srp_entry}
+use Rattle.vio_num.specs.Entry.{first_byte, initialize, initialization_complete, is_srp_entry, iu_length, partner_freed, srp_entry}
 use Rattle.crq_session.specs.Answered.{MaySend, SendsUnregistered}
 use Rattle.crq_session.specs.Answers.{OnNotSent, OnReached}
 use Rattle.crq_session.specs.EndState.{EndState}
 use Rattle.crq_session.specs.declared.answers.SendAnswer.{SendAnswer}
 use Rattle.crq_session.specs.declared.answers.SendAnswer.TheVariants as sending
-use Rattle.block_server.specs.Entries.{MayPut, datagram_answer, is_answer, is_answer_len, is_response_len, same_entry}
+use Rattle.block_server.specs.Entries.{MayPut, datagram_answer, is_answer, is_answer_len, is_response, is_response_len, same_entry}
+use Rattle.block_server.specs.LoginAnswers.{is_login_answer}
 
 either : (a b : Bool) → (a || b) ≡ true → (a ≡ true) ⊎ (b ≡ true)
 either true b is = inl refl
@@ -76,6 +77,42 @@ may_used e may = by (either (is_answer e) _ may)
         let parts = both (is_answer_len (iu_length e)) (same_entry e (srp_entry (iu_length e) e.low)) is in
         answer_used e (iu_length e) parts.0 (same_high e (srp_entry (iu_length e) e.low) parts.1)
     by (inr is) = others is
+
+-- what a unit puts that answers nothing is no SRP entry
+pub may_plain : (e : Entry) → MayPut e → is_response e ≡ false → is_login_answer e ≡ false → is_srp_entry e ≡ false
+may_plain e may response login = by (is_srp_entry e) refl
+  where
+    lens : (s a b c d f : Bool) → s ≡ true → (s && a) || ((s && b) || (s && c)) ≡ false → (s && d) || (s && f) ≡ false → (a || (b || c)) || (d || f) ≡ false
+    lens true a b c d f on first next = ap (λ (x : Bool). x || (d || f)) first ∙ next
+    lens false a b c d f on first next = absurd (cc (on))
+
+    after : (a b : Bool) → (a || b) ≡ true → a ≡ false → b ≡ true
+    after true b is off = absurd (cc (off))
+    after false b is off = is
+
+    high : (h : ℕ) → e.high ≡ h → is_srp_entry (record { high = h; low = e.low }) ≡ false → is_srp_entry e ≡ false
+    high h same off = ap (λ (x : ℕ). is_srp_entry (record { high = x; low = e.low })) same ∙ off
+
+    third : (same_entry e initialization_complete ≡ true) ⊎ (same_entry e partner_freed ≡ true) → is_srp_entry e ≡ false
+    third (inl same) = high 0xC002_0000_0000_0000 (same_high e initialization_complete same) refl
+    third (inr same) = high 0xFF02_0000_0000_0000 (same_high e partner_freed same) refl
+
+    second : (same_entry e initialize ≡ true) ⊎ ((same_entry e initialization_complete || same_entry e partner_freed) ≡ true) → is_srp_entry e ≡ false
+    second (inl same) = high 0xC001_0000_0000_0000 (same_high e initialize same) refl
+    second (inr rest) = third (either (same_entry e initialization_complete) (same_entry e partner_freed) rest)
+
+    first : (same_entry e (datagram_answer e.low) ≡ true)
+        ⊎ ((same_entry e initialize || (same_entry e initialization_complete || same_entry e partner_freed)) ≡ true) → is_srp_entry e ≡ false
+    first (inl same) = high 0x8002_00F1_0000_0000 (same_high e (datagram_answer e.low) same) refl
+    first (inr rest) = second (either (same_entry e initialize) (same_entry e initialization_complete || same_entry e partner_freed) rest)
+
+    by : (s : Bool) → is_srp_entry e ≡ s → is_srp_entry e ≡ false
+    by false is = is
+    by true is =
+        let n = iu_length e in
+        let none : is_answer e ≡ false = ap (λ (x : Bool). x && same_entry e (srp_entry n e.low))
+        (lens (is_srp_entry e) (n == 36) (n == 40) (n == 54) (n == 52) (n == 32) is response login) in
+        first (either (same_entry e (datagram_answer e.low)) _ (after (is_answer e) _ may none))
 
 -- A send of such an entry.
 pub send_refused : (result : SendAnswer) (old : EndState) (entry : Entry) → MayPut entry → (result ≡ sending.Parameter) ↔ (first_byte entry < 0x80)

@@ -1,5 +1,5 @@
 -- Each answer once, where the service of a request goes on, and where an entry is kept or a request comes.
-use Rattle.std.proofs.Common.{◌≡◌, ◌≢◌, ◌++◌, ◌<◌, ℕ, length, List, [], ◌∷◌, Bool, true, false, Option, Some, None, IfSome, take, Result, Ok, Err, OnOk, OnErr, refl, sym, ◌∙◌, ap, subst, arith}
+use Rattle.std.proofs.Common.{inl, ◌≡◌, ◌≢◌, ◌++◌, ◌<◌, ℕ, length, List, [], ◌∷◌, Bool, true, false, Option, Some, None, IfSome, take, Result, Ok, Err, OnOk, OnErr, refl, sym, ◌∙◌, ap, subst, arith}
 use Rattle.std.specs.List.{HoldsAt}
 use Rattle.std.specs.Prelude.{IsSome}
 use Rattle.vio_num.specs.declared.entry.Entry.{Entry as QueueEntry}
@@ -406,7 +406,7 @@ once_cut one a b s h h' row n reply cursor request rest command id pending was i
       others = only_there a.id iu h h' row served.in_service new served.in_service.unit_is refl there;
       stays = stays_there d h h' served.in_service.before served.in_service.behind old new served.in_service.history_is there
           (may_cut one d.terms made.command reply old known n served.in_service.unanswered);
-      written = written_there d.terms.told h h' served.in_service.before served.in_service.behind old new served.in_service.history_is there (λ is. is);
+      written = written_there d.terms.size d.terms.told h h' served.in_service.before served.in_service.behind old new served.in_service.history_is there (λ was. inl served.in_service.unanswered);
       tells = tells_same d.now;
     }
 
@@ -444,7 +444,7 @@ once_added d d' a b s s' h h' request rest served stage id front kept stage_is o
       answers = more_none a.id s s' h h' put (answers_blank a.id h h' served blank added);
       others = subst (OnlyRowsOf a.id h) (sym added) (stays_one a.id h served unit);
       stays = disk;
-      written = λ is. written_blank d'.terms.told h h' served blank added (subst (λ (t : Terms). AreWritten t.told h) (sym terms) is);
+      written = λ is. written_blank d'.terms.size d'.terms.told h h' served blank added (subst (λ (t : Terms). AreWritten t.size t.told h) (sym terms) is);
       tells = tells;
     }
 

@@ -104,6 +104,13 @@ leaves_alike current granted name queue old new rows rows' (first ∷ others) re
     alike : question_of first ≡ question_of request
     alike = first_asks (question_of first) (question_of request) (map question_of others) (map question_of rest) same
 
+out_alike : (a b : PortState) (pending : List Request) (request : Request) (rest : List Request)
+    → ((first : Request) (others : List Request) → pending ≡ first ∷ others → first.order ≡ orders.Logout → a ≡ b) → map question_of pending ≡ map question_of (request ∷ rest)
+    → request.order ≡ orders.Logout → a ≡ b
+out_alike a b [] request rest out same is = absurd (no_first (question_of request) (map question_of rest) same)
+out_alike a b (first ∷ others) request rest out same is =
+    out first others refl (ap (λ (z : Question). z.order) (first_asks (question_of first) (question_of request) (map question_of others) (map question_of rest) same) ∙ is)
+
 -- what is told of a request by more that is heard
 names_map : (F G : Hearing) (order : Order) (list : List Desc) → Includes F G → NamesData F order list → NamesData G order list
 names_map F G (orders.Command command) list more is = named_map F G command.inn list more is
@@ -190,9 +197,10 @@ pub leaves_on : {A : Type 0} (link : Bool) (unit u1 u2 u3 : Unit) (r0 r1 r2 r3 :
     → (IsListening u2 r2 link words → FitOneTurn u2 r2 words → HasHeard u2 u3 r2 r3 l2 l3 words)
     → ((request : Request) (rest : List Request) → IsServable u3 r3 link request rest → request.order ≢ orders.Logout
     → OnOk result (LeavesAnswer u3.logins.current u3.logins.granted name' (question_of request) queue r3.client client' h3 h4))
+    → ((request : Request) (rest : List Request) → u3.pending.items ≡ request ∷ rest → request.order ≡ orders.Logout → client' ≡ r3.client)
     → OnOk result (LeavesOn name unit r0.queue words queue r0.client client' h0 h4)
-leaves_on link unit u1 u2 u3 r0 r1 r2 r3 name name' queue client' l0 l2 l3 h0 h2 h3 h4 words (Err memory) calm same1 still client shared same2 reach lines shared3 named first idle hears leaves = tt
-leaves_on link unit u1 u2 u3 r0 r1 r2 r3 name name' queue client' l0 l2 l3 h0 h2 h3 h4 words (Ok done) calm same1 still client shared same2 reach lines shared3 named first idle hears leaves = record {
+leaves_on link unit u1 u2 u3 r0 r1 r2 r3 name name' queue client' l0 l2 l3 h0 h2 h3 h4 words (Err memory) calm same1 still client shared same2 reach lines shared3 named first idle hears leaves out = tt
+leaves_on link unit u1 u2 u3 r0 r1 r2 r3 name name' queue client' l0 l2 l3 h0 h2 h3 h4 words (Ok done) calm same1 still client shared same2 reach lines shared3 named first idle hears leaves out = record {
   leaves = λ talk request rest heard is other.
       subst (λ (v : ℕ × ℕ × List Question). LeavesAnswer v.0 v.1 name (question_of request) queue r0.client client' h0 h4)
       (alike_all words (talk_of unit) (talk_of unit) (talk_of u3) talk (length (taken_now r0.queue)) refl all.heard heard)
@@ -202,6 +210,9 @@ leaves_on link unit u1 u2 u3 r0 r1 r2 r3 name name' queue client' l0 l2 l3 h0 h2
       (subst (λ (z : UnitId × List Served). LeavesAnswer u3.logins.current u3.logins.granted z.0 (question_of found) queue r3.client client' z.1 h4) (λ i. (named i, rows i))
       (leaves found others (servable found others pending) asked)))
       (pending_alike words (talk_of unit) (talk_of u3) talk (length (taken_now r0.queue)) (request ∷ rest) all.heard heard is) other);
+  out = λ talk request rest heard is asks_out.
+      subst (StaysKnown r0.client) (sym (out_alike client' r3.client u3.pending.items request rest out
+      (pending_alike words (talk_of unit) (talk_of u3) talk (length (taken_now r0.queue)) (request ∷ rest) all.heard heard is) asks_out)) all.window;
 }
   where
     rows : h3 ≡ h0
@@ -248,6 +259,7 @@ pub leaves_from : (name : UnitId) (unit unit1 : Unit) (before : EndState) (words
     → LeavesOn name unit1 before words queue old new rows rows' → LeavesOn name unit before words queue old new rows rows'
 leaves_from name unit unit1 before words queue old new rows rows' talk is = record {
   leaves = λ t request rest heard. is.leaves t request rest (subst (λ (from : Talk). HearsAll from (length (taken_now before)) words t) (sym talk) heard);
+  out = λ t request rest heard. is.out t request rest (subst (λ (from : Talk). HearsAll from (length (taken_now before)) words t) (sym talk) heard);
 }
 
 -- the unit of a number, which is then that of the turn

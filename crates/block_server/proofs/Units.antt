@@ -150,6 +150,9 @@ pub tells_prop : (now now' : Option (List (List ℕ))) → IsProp (IfSome now (�
 tells_prop None now' = hlevel props
 tells_prop (Some all) now' = hlevel props
 
+pub same_prop : (a b : ℕ) → IsProp (a ≡ b)
+same_prop a b = hlevel props
+
 -- what a unit has under way, where its turn was quiet
 pub way_quiet : (result : Result Moved NoMemory) (units : List Unit) (n : ℕ) (unit unit' : Unit) (q q' : EndState) → slice_get units n ≡ Some unit
     → IfOk result (λ moved. moved ≡ Quiet → IsQuietTurn unit unit' q q') → IfOk result (λ moved. moved ≡ Quiet → way_of (slice_set units n unit') n ≡ way_of units n)

@@ -31,6 +31,7 @@ use Rattle.block_server.specs.DiskLaw.{HasData, ServeBy, ServesRowBy, handed_ove
 use Rattle.block_server.specs.Fetched.{HasPieces, Buffers, buffers_of}
 use Rattle.block_server.specs.Answering.{AnswersMore, IsInService, OnlyRowsOf}
 use Rattle.block_server.specs.Entries.{IsPlain}
+use Rattle.block_server.specs.Formed.{IsFormed}
 use Rattle.block_server.specs.Granting.{HasOffer, LoginState, login_state}
 use Rattle.block_server.specs.Records.{AnswersRow, FillsRow}
 use Rattle.block_server.specs.Written.{AreWritten, IsWrittenOver}
@@ -104,10 +105,10 @@ pub record HasReply (terms : Terms) (request : Request) (given : List ℕ) (repl
   pub given_is : served.inn ≡ given
   pub all_in : length served.inn ≡ handed_over command reply
 
--- The row law stays as the row gets this answer, on these terms.
-abbrev pub MayAnswer : (terms : Terms) → (answer : List ℕ) → ServedRow → Type 0
-MayAnswer terms answer served =
-    (before after : List (List ℕ)) → length before ≡ terms.size → ServesRowBy terms.told before served after → ServesRowBy terms.told before (record served { answer = answer }) after
+-- The row law stays as the row gets this answer, on these terms; and the row is then in form, whatever the image tells.
+pub record MayAnswer (terms : Terms) (answer : List ℕ) (served : ServedRow) : Type 0 where
+  pub law : (before after : List (List ℕ)) → length before ≡ terms.size → ServesRowBy terms.told before served after → ServesRowBy terms.told before (record served { answer = answer }) after
+  pub form : IsFormed terms.size terms.told (record served { answer = answer })
 
 -- The same, and a copy wrote the answer over the row's request.
 pub record IsReady (terms : Terms) (answer : List ℕ) (served : ServedRow) : Type 0 where
@@ -187,7 +188,7 @@ pub record Once (disk disk' : Held) (desk desk' : Desk) (sent sent' : List PipeR
   pub answers : AnswersMore desk.id sent sent' history history'
   pub others : OnlyRowsOf desk.id history history'
   pub stays : StaysServed disk disk' history history'
-  pub written : AreWritten disk.terms.told history → AreWritten disk'.terms.told history'
+  pub written : AreWritten disk.terms.size disk.terms.told history → AreWritten disk'.terms.size disk'.terms.told history'
   pub tells : IfSome disk.now (λ all. IsSome disk'.now)
 
 -- the same of a part of a turn that makes no disk step, whatever the disk is

@@ -20,7 +20,7 @@ use Rattle.block_server.specs.Ends.{IsRejection}
 use Rattle.block_server.specs.Granting.{LoginState}
 use Rattle.block_server.specs.Ranges.{known_in}
 use Rattle.block_server.specs.Responses.{Answers, GrantsLogin}
-use Rattle.block_server.specs.Talk.{HearsAll, IsReadWhole, StandAt, Suits, Talk, Word, talk_of}
+use Rattle.block_server.specs.Talk.{HearsAll, IsReadWhole, StandAt, StaysKnown, Suits, Talk, Word, talk_of}
 use Rattle.block_server.specs.declared.logins.Logins.{Logins}
 use Rattle.block_server.specs.declared.request.Order.{Order}
 use Rattle.block_server.specs.declared.request.Order.TheVariants as orders
@@ -100,8 +100,10 @@ pub record LeavesAnswer (current granted : ℕ) (name : UnitId) (asked : Questio
 abbrev pub LeavesFirst : Logins → UnitId → Request → EndState → (old new : PortState) → (rows rows' : List Served) → Type 0
 LeavesFirst logins name request queue old new rows rows' = LeavesAnswer logins.current logins.granted name (question_of request) queue old new rows rows'
 
--- What a turn in which nothing is amiss leaves of the first request that is pending once all was heard, but of a logout, which is not
--- answered.
+-- What a turn in which nothing is amiss leaves of the first request that is pending once all was heard. A logout is not answered: nothing is
+-- laid for it.
 pub record LeavesOn (name : UnitId) (unit : Unit) (before : EndState) (words : List Word) (queue : EndState) (old new : PortState) (rows rows' : List Served) : Type 0 where
   pub leaves : (talk : Talk) (request : Request) (rest : List Request) → HearsAll (talk_of unit) (length (taken_now before)) words talk → talk.pending ≡ request ∷ rest
       → request.order ≢ orders.Logout → LeavesAnswer talk.current talk.granted name (question_of request) queue old new rows rows'
+  pub out : (talk : Talk) (request : Request) (rest : List Request) → HearsAll (talk_of unit) (length (taken_now before)) words talk → talk.pending ≡ request ∷ rest
+      → request.order ≡ orders.Logout → StaysKnown old new

@@ -1,5 +1,8 @@
 -- A turn of a server unit in which nothing was done.
-use Rattle.std.specs.Prelude.{◌≡◌, ℕ, true, false, List, Option, option_map, slice_get}
+use Rattle.std.specs.Prelude.{◌≡◌, ℕ, Bool, true, false, List, Option, Result, Ok, Err, option_map, slice_get}
+use Rattle.vio_num.specs.declared.hypervisor.Moved.{Moved}
+use Rattle.vio_num.specs.declared.hypervisor.Moved.TheVariants as moves
+use Rattle.vio_num.specs.declared.memory.NoMemory.{NoMemory}
 use Rattle.crq_session.specs.EndState.{EndState}
 use Rattle.block_server.specs.declared.request.Arrival.{Arrival}
 use Rattle.block_server.specs.declared.request.Request.{Request}
@@ -45,3 +48,9 @@ StaysMoved unit unit' = unit.moved ≡ true → unit'.moved ≡ true
 -- what the unit of this number has under way
 abbrev pub way_of : List Unit → ℕ → Option UnderWay
 way_of units unit = option_map under_way (slice_get units unit)
+
+-- what a turn tells that is done, by whether it moved
+abbrev pub told_of : {X : Type 0} → Result X NoMemory → (moved : Bool) → Result Moved NoMemory
+told_of (Ok done) true = Ok moves.Moved
+told_of (Ok done) false = Ok moves.Quiet
+told_of (Err memory) moved = Err memory

@@ -1,5 +1,6 @@
 // Answering: what is put into the client's queue, and what ends a login.
-ghost use Rattle.block_server.specs.Talk.{CopiesAnswer, HasRoomFor, IsAnswerAt, IsReplied, LogsOut, MayWriteAnswer, PutsAnswer, SettlesLogins, reach_of, settled_lines};
+ghost use Rattle.block_server.specs.Doings.{DoesOne, DoesTurn, DropsAll, IsAtRest, KeepsNoAnswer, StepsAside, WritesAnswer, doing};
+ghost use Rattle.block_server.specs.Talk.{CopiesAnswer, HasRoomFor, IsAnswerAt, IsReplied, LogsOut, MayWriteAnswer, PutsAnswer, SettlesLogins, StaysKnown, reach_of, settled_lines};
 ghost use Rattle.std.specs.Prelude.{◌≡◌, ◌≢◌, ◌⊎◌, ◌+◌, ◌<◌, ◌∷◌, ◌++◌, ℕ, Bool, List, None, Some, IfOk, OnOk, drop, false, length, slice_get, true};
 ghost use Rattle.block_server.specs.Advances.{Advances};
 ghost use Rattle.block_server.specs.Bearing.{BearsIn, IsAnswerPart};
@@ -71,8 +72,7 @@ pub(crate) fn put_reply<S: Site>(unit: &mut Unit, site: &mut S, reply: Entry) ->
         (S.state site.old) (S.state site.new) records records }
     ensures cargo { (records : Records) → cargo_of unit.new (S.state site.new) records ≡
         cargo_of unit.old (S.state site.old) records }
-    ensures refuses { (records : Records) → Explains
-        (ledger_of unit.old (S.state site.old) records)
+    ensures refuses { (records : Records) → Explains (ledger_of unit.old (S.state site.old) records)
         (ledger_of unit.new (S.state site.new) records) }
     ensures hears { S.link_shared ≡ false → (S.state site.old).queue.registered ≡ true →
         HasRoomFor (S.state site.old).queue 1 → (result ≡ Next.Entry) ×
@@ -80,6 +80,9 @@ pub(crate) fn put_reply<S: Site>(unit: &mut Unit, site: &mut S, reply: Entry) ->
         (reach_of (S.state site.old)) (reach_of (S.state site.new)) reply }
     ensures event { (S.state site.new).queue.kept ≡ (S.state site.old).queue.kept }
     ensures service { unit.new.service ≡ unit.old.service }
+    ensures aside { (records : Records) → S.link_shared ≡ false → KeepsNoAnswer
+        unit.old.line.kept → StepsAside (doing unit.old (S.state site.old) records) (doing
+        unit.new (S.state site.new) records) }
 {
     match site.send(reply) {
         SendAnswer::Dropped { .. } => {
@@ -173,8 +176,7 @@ pub(crate) fn lose_partner(unit: &mut Unit, session: u64, records: &mut Records)
         records.old records.new }
     ensures handshake { unit.new.line.handshake ≡ unit.old.line.handshake }
     ensures moved { unit.new.moved ≡ unit.old.moved }
-    ensures stands { unit.old.waiting ≡ None →
-        standing_of unit.new ≡ standing_of unit.old }
+    ensures stands { unit.old.waiting ≡ None → standing_of unit.new ≡ standing_of unit.old }
     ensures books { EndsBooks unit.old unit.new records.old records.new
         session false Lapse.Lost 0 0 }
     ensures waiting { unit.new.waiting ≡ None }
@@ -302,9 +304,8 @@ pub(crate) fn log_out(unit: &mut Unit, session: u64, records: &mut Records)
         gets_row front.order ≡ false → Keeps (books_of unit.old session next records.old)
         (books_of unit.new session next records.new) }
     ensures answers { (q : EndState) → (front : Request) → (rest : List Request) →
-        unit.old.pending.items ≡ front ∷ rest → gets_row front.order ≡ false →
-        HasAnswers (owing_of unit.old q records.old) →
-        HasAnswers (owing_of unit.new q records.new) }
+        unit.old.pending.items ≡ front ∷ rest → gets_row front.order ≡ false → HasAnswers (owing_of
+        unit.old q records.old) → HasAnswers (owing_of unit.new q records.new) }
     ensures cargo { (shown shown' : Sight) →
         shown'.pages.count ≡ shown.pages.count →
         is_loaded unit.old.service.stage ≡ false → KeepsCargo
@@ -353,19 +354,17 @@ pub(crate) fn answer<S: Site>(
     ensures agrees { StaysAgreed unit.old unit.new
         (S.state site.old).queue (S.state site.new).queue }
     ensures advances { Advances (S.state site.old) (S.state site.new) }
-    ensures intake { TakesIn (standing_of unit.old) (standing_of unit.new)
-        (S.state site.old) (S.state site.new)
-        records.old.grants.items records.new.grants.items }
+    ensures intake { TakesIn (standing_of unit.old) (standing_of unit.new) (S.state site.old)
+        (S.state site.new) records.old.grants.items records.new.grants.items }
     ensures books { Keeps (books_at unit.old (S.state site.old) records.old)
         (books_at unit.new (S.state site.new) records.new) }
     ensures passes { Passes (S.state site.old) (S.state site.new) }
     ensures answers { KeepsAnswersBy (books_at unit.old (S.state site.old) records.old)
         S.link_shared unit.old unit.new (S.state site.old) (S.state site.new)
         records.old records.new }
-    ensures judges { Judges
-        (standing_of unit.old) (standing_of unit.new) (S.state site.old) (S.state site.new)
-        (books_at unit.old (S.state site.old) records.old)
-        (books_at unit.new (S.state site.new) records.new) }
+    ensures judges { Judges (standing_of unit.old) (standing_of unit.new) (S.state site.old)
+        (S.state site.new) (books_at unit.old (S.state site.old) records.old) (books_at unit.new
+        (S.state site.new) records.new) }
     ensures cargo { KeepsCargo (cargo_of unit.old (S.state site.old) records.old)
         (cargo_of unit.new (S.state site.new) records.new) }
     ensures refuses { (terms : Terms) → ExplainsOn S.link_shared unit.old.line.handshake
@@ -410,6 +409,11 @@ pub(crate) fn answer<S: Site>(
         slice_get records.old.history.items place ≡ Some row →
         OnOk result (slice_get records.new.history.items place ≡
         Some (record row { answer = unit.old.service.answer.items })) }
+    ensures does { (request : Request) → (rest : List Request) → (outcome : Outcome) →
+        unit.old.service.stage ≡ Stage.Answer outcome → unit.old.pending.items ≡ request ∷ rest →
+        S.link_shared ≡ false → (S.state site.old).shared ≡ false → unit.old.waiting ≡ None →
+        is_ended unit.old.line ≡ false → OnOk result (DoesTurn (doing unit.old (S.state site.old)
+        records.old) (doing unit.new (S.state site.new) records.new)) }
 {
     records.make_room()?;
     unit.logins.make_room()?;
@@ -444,9 +448,8 @@ fn copy_answer<S: Site>(
     ensures last { unit.new.logins.last ≡ unit.old.logins.last }
     ensures line { (outcome : Outcome) → unit.new.service.stage ≡ Stage.Entry outcome →
         HasLineRoom records.new }
-    ensures intake { TakesIn (standing_of unit.old) (standing_of unit.new)
-        (S.state site.old) (S.state site.new)
-        records.old.grants.items records.new.grants.items }
+    ensures intake { TakesIn (standing_of unit.old) (standing_of unit.new) (S.state site.old)
+        (S.state site.new) records.old.grants.items records.new.grants.items }
     ensures books { Keeps (books_at unit.old (S.state site.old) records.old)
         (books_at unit.new (S.state site.new) records.new) }
     ensures passes { Passes (S.state site.old) (S.state site.new) }
@@ -458,9 +461,8 @@ fn copy_answer<S: Site>(
         (books_at unit.new (S.state site.new) records.new) }
     ensures cargo { KeepsCargo (cargo_of unit.old (S.state site.old) records.old)
         (cargo_of unit.new (S.state site.new) records.new) }
-    ensures refuses { ExplainsBy (S.state site.old) (S.state site.new)
-        (ledger_of unit.old (S.state site.old) records.old)
-        (ledger_of unit.new (S.state site.new) records.new) }
+    ensures refuses { ExplainsBy (S.state site.old) (S.state site.new) (ledger_of unit.old (S.state
+        site.old) records.old) (ledger_of unit.new (S.state site.new) records.new) }
     ensures serves { (request : Request) → (rest : List Request) → (outcome : Outcome) →
         IsAnswerAt unit.old.service.stage outcome →
         unit.old.pending.items ≡ request ∷ rest → (S.state site.old).shared ≡ false →
@@ -484,6 +486,14 @@ fn copy_answer<S: Site>(
     ensures history { records.new.history.items ≡ records.old.history.items }
     ensures row { (outcome : Outcome) → unit.new.service.stage ≡ Stage.Entry outcome →
         row_in unit.new.service.stage ≡ row_in unit.old.service.stage }
+    ensures waiting { unit.old.waiting ≡ None → unit.new.waiting ≡ None }
+    ensures stands { (outcome : Outcome) → unit.new.service.stage ≡ Stage.Entry outcome →
+        standing_of unit.new ≡ standing_of unit.old }
+    ensures does { (request : Request) → (rest : List Request) → (outcome : Outcome) →
+        unit.old.service.stage ≡ Stage.Answer outcome → unit.old.pending.items ≡ request ∷ rest →
+        (S.state site.old).shared ≡ false → OnOk result (WritesAnswer (doing unit.old (S.state
+        site.old) records.old) (doing unit.new (S.state site.new) records.new) ⊎ DropsAll (doing
+        unit.old (S.state site.old) records.old) (doing unit.new (S.state site.new) records.new)) }
 {
     let Stage::Answer(outcome) = unit.service.stage else {
         return Ok(());
@@ -545,6 +555,8 @@ fn deliver<S: Site>(unit: &mut Unit, site: &mut S, outcome: Outcome) -> Result<P
         Stands (S.state site.new).client (own_name (S.state site.old).own request.tag)
         request.address unit.old.service.answer.items) }
     ensures row { row_in unit.new.service.stage ≡ row_in unit.old.service.stage }
+    ensures missed { IfOk result (λ progress. progress ≡ Progress.Refused → (S.state
+        site.old).shared ≡ false → StaysKnown (S.state site.old).client (S.state site.new).client) }
 {
     let Some(request) = unit.pending.front() else {
         return Ok(Progress::Busy);
@@ -612,6 +624,12 @@ fn put_answer<S: Site>(unit: &mut Unit, site: &mut S, records: &mut Records, out
         slice_get records.old.history.items place ≡ Some row →
         slice_get records.new.history.items place ≡
         Some (record row { answer = unit.old.service.answer.items }) }
+    ensures does { (request : Request) → (rest : List Request) → unit.old.pending.items ≡ request
+        ∷ rest → S.link_shared ≡ false → DoesOne (doing unit.old (S.state site.old) records.old)
+        (doing unit.new (S.state site.new) records.new) }
+    ensures free { (request : Request) → (rest : List Request) → unit.old.pending.items ≡ request
+        ∷ rest → S.link_shared ≡ false → unit.old.waiting ≡ None → is_ended unit.old.line ≡ false
+        → IsAtRest (doing unit.new (S.state site.new) records.new) }
 {
     let Some(request) = unit.pending.front() else {
         return;
@@ -678,6 +696,9 @@ pub(crate) fn put_kept<S: Site>(
         OnOk result (records.new.grants.items ≡ records.old.grants.items) }
     ensures unkept_rows { unit.old.line.kept ≡ None →
         records.new.history.items ≡ records.old.history.items }
+    ensures does { S.link_shared ≡ false → IsAtRest (doing unit.old (S.state site.old)
+        records.old) → OnOk result (DoesTurn (doing unit.old (S.state site.old) records.old)
+        (doing unit.new (S.state site.new) records.new)) }
 {
     let Some(kept) = unit.line.kept else {
         return Ok(Next::Entry);

@@ -1,9 +1,14 @@
 // Intake: entries are taken from the unit's queue, and the requests among them are fetched and judged.
+ghost use Rattle.block_server.specs.Doings.{DoesFreely, DoesOne, IsFree, before_hearing, doing};
+ghost use Rattle.block_server.specs.Talk.{IsReadWhole, StaysKnown};
+ghost use Rattle.vio_num.specs.Entry.{is_srp_entry};
+ghost use Rattle.block_server.specs.declared.service.Stage.{Stage};
+ghost use Rattle.block_server.specs.declared.service.Stage.TheVariants.{Start};
 ghost use Rattle.block_server.specs.Talk.{FitOneTurn, HasHeard, HasHeardAll, HearsFirst, IsAccepted, SaysRequest, IsListening, IsReceivedAs, MayAsk, Word, reach_of, talk_of};
 ghost use Rattle.crq_session.specs.declared.handshake.Handshake.TheVariants.{Up};
 ghost use Rattle.srp_iu.specs.declared.unit.Iu.{Iu};
 ghost use Rattle.block_server.specs.Cargo.{KeepsCargo, Pages, cargo_of, cargo_with};
-ghost use Rattle.std.specs.Prelude.{◌≡◌, ◌⊎◌, ◌↔◌, ◌+◌, ◌<◌, ◌≤◌, ℕ, List, None, Some, IfOk, IsTrue, OnOk, false, true, length, slice_index};
+ghost use Rattle.std.specs.Prelude.{◌≡◌, ◌≢◌, ◌⊎◌, ◌↔◌, ◌+◌, ◌<◌, ◌≤◌, ℕ, List, None, Some, IfOk, IsTrue, OnOk, false, true, length, slice_index};
 ghost use Rattle.std.specs.VecDeque.{deque_len, deque_capacity};
 ghost use Rattle.block_server.specs.Records.{HasLineRoom};
 ghost use Rattle.block_server.specs.Refusals.{Explains, ExplainsBy, ExplainsIf, ledger_at, ledger_of, waiting_in};
@@ -141,6 +146,12 @@ pub(crate) fn take_in<S: Site>(
         HasHeardAll unit.new (S.state site.new).queue) }
     ensures rows { KeepsIdleRows unit.old.service.stage unit.new.service.stage
         records.old.history.items records.new.history.items }
+    ensures does { S.link_shared ≡ false → (S.state site.old).shared ≡ false → IsFree (doing
+        unit.old (S.state site.old) records.old) → OnOk result (DoesFreely (doing unit.old
+        (S.state site.old) records.old) (doing unit.new (S.state site.new) records.new)) }
+    ensures goes { S.link_shared ≡ false → (S.state site.old).shared ≡ false →
+        is_ended unit.old.line ≡ false →
+        IfOk result (λ next. next ≢ Next.End → is_ended unit.new.line ≡ false) }
 {
     let next = receive_waiting(unit, site, records)?;
     if next != Next::Entry {
@@ -201,6 +212,11 @@ fn receive_waiting<S: Site>(
         OnOk result (records.new.grants.items ≡ records.old.grants.items) }
     ensures rows { KeepsIdleRows unit.old.service.stage unit.new.service.stage
         records.old.history.items records.new.history.items }
+    ensures does { S.link_shared ≡ false → (S.state site.old).shared ≡ false → IsFree (doing
+        unit.old (S.state site.old) records.old) → OnOk result (DoesFreely (doing unit.old
+        (S.state site.old) records.old) (doing unit.new (S.state site.new) records.new)) }
+    ensures goes { (S.state site.old).shared ≡ false → is_ended unit.old.line ≡ false →
+        IfOk result (λ next. next ≢ Next.End → is_ended unit.new.line ≡ false) }
 {
     let Some(arrival) = unit.waiting else {
         return Ok(Next::Entry);
@@ -231,6 +247,8 @@ fn make_room(unit: &mut Unit, records: &mut Records) -> Result<(), NoMemory>
         (ledger_at unit.old queue taken answers records.old)
         (ledger_at unit.new queue taken answers records.new) }
     ensures talk { talk_of unit.new ≡ talk_of unit.old }
+    ensures doing { (site : SiteState) →
+        doing unit.new site records.new ≡ doing unit.old site records.old }
 {
     unit.pending.reserve(1)?;
     records.make_room()
@@ -283,6 +301,11 @@ fn take_one<S: Site>(unit: &mut Unit, site: &mut S, records: &mut Records) -> Re
         records.old.grants.items records.new.grants.items words) }
     ensures rows { KeepsIdleRows unit.old.service.stage unit.new.service.stage
         records.old.history.items records.new.history.items }
+    ensures does { S.link_shared ≡ false → (S.state site.old).shared ≡ false → IsFree (doing
+        unit.old (S.state site.old) records.old) → OnOk result (DoesFreely (doing unit.old
+        (S.state site.old) records.old) (doing unit.new (S.state site.new) records.new)) }
+    ensures goes { (S.state site.old).shared ≡ false → is_ended unit.old.line ≡ false →
+        IfOk result (λ next. next ≢ Next.End → is_ended unit.new.line ≡ false) }
 {
     site.reserve(2)?;
     let PollAnswer::Got { number, entry } = site.poll() else {
@@ -360,6 +383,13 @@ fn take_command<S: Site>(
         records.old.grants.items records.new.grants.items arrival.number address bytes iu) }
     ensures rows { KeepsIdleRows unit.old.service.stage unit.new.service.stage
         records.old.history.items records.new.history.items }
+    ensures does { S.link_shared ≡ false → (S.state site.old).shared ≡ false → first_byte
+        arrival.entry ≡ 0x80 → unit.old.waiting ≡ None → IsFree (before_hearing arrival (doing
+        unit.old (S.state site.old) records.old)) → OnOk result (DoesFreely (before_hearing
+        arrival (doing unit.old (S.state site.old) records.old)) (doing unit.new (S.state
+        site.new) records.new)) }
+    ensures goes { (S.state site.old).shared ≡ false → is_ended unit.old.line ≡ false →
+        IfOk result (λ next. next ≢ Next.End → is_ended unit.new.line ≡ false) }
 {
     match arrival.entry.format() {
         SRP => {
@@ -421,6 +451,12 @@ fn receive<S: Site>(
         records.old.grants.items records.new.grants.items arrival.number address bytes iu) }
     ensures rows { KeepsIdleRows unit.old.service.stage unit.new.service.stage
         records.old.history.items records.new.history.items }
+    ensures does { S.link_shared ≡ false → (S.state site.old).shared ≡ false → is_srp_entry
+        arrival.entry ≡ true → IsFree (before_hearing arrival (doing unit.old (S.state site.old)
+        records.old)) → OnOk result (DoesFreely (before_hearing arrival (doing unit.old (S.state
+        site.old) records.old)) (doing unit.new (S.state site.new) records.new)) }
+    ensures goes { (S.state site.old).shared ≡ false → is_ended unit.old.line ≡ false →
+        IfOk result (λ next. next ≢ Next.End → is_ended unit.new.line ≡ false) }
 {
     let session = site.session();
     if !unit.line.is_up() {
@@ -490,6 +526,14 @@ fn judge(
         arrival.number (iu_address arrival.entry) bytes.now iu }
     ensures rows { KeepsIdleRows unit.old.service.stage unit.new.service.stage
         records.old.history.items records.new.history.items }
+    ensures does { (before : SiteState) → (site : SiteState) → is_srp_entry arrival.entry ≡ true
+        → unit.old.service.stage ≡ Stage.Start → length bytes.now ≡ iu_length arrival.entry →
+        StaysKnown before.client site.client → site.queue ≡ before.queue → site.own.place.unit ≡
+        before.own.place.unit → IsReadWhole before.client (iu_address arrival.entry) bytes.now →
+        DoesOne (before_hearing arrival (doing unit.old before records.old)) (doing unit.new site
+        records.new) }
+    ensures stage { unit.old.service.stage ≡ Stage.Start → unit.new.service.stage ≡ Stage.Start }
+    ensures goes { result ≢ Next.End → unit.new.line ≡ unit.old.line }
 {
     bytes_spell_one();
     match judge_unit(&mut unit.logins, bytes) {

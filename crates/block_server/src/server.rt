@@ -1,33 +1,29 @@
 // A server: its units, the disk that they serve, and what they keep for good.
-ghost use Rattle.block_server.specs.Talk.{AreNewUnits, IsNewThere, IsTurnReady, UnitOpensOn, UnitTalksOn, Word, reach};
+ghost use Rattle.block_server.specs.Doings.{IsAtRest, UnitDoes, doing_at};
+ghost use Rattle.block_server.specs.Talk.{AreNewUnits, IsNewThere, IsTurnReady, UnitOpensOn, Word, reach};
 ghost use Rattle.std.specs.Prelude.{◌≡◌, ◌≢◌, ◌<◌, ◌≤◌, ◌++◌, ℕ, Bool, List, [], false, IfErr, IfOk, IfSome, IsSome, OnOk, Some, slice_get, vec_len};
 ghost use Rattle.rdma_copy.specs.Copies.{side_of};
 ghost use Rattle.tce_window.specs.Port.{Later};
 ghost use Rattle.block_server.specs.Advances.{CopiesMore, Goes, KeepsFreed, PutsNow, StayNamed};
-ghost use Rattle.block_server.specs.Cargo.{AreIdle, HasRuns};
-ghost use Rattle.block_server.specs.Causes.{Told, anything, told_to};
-ghost use Rattle.block_server.specs.Dealt.{HasDealt, KnowsSends};
-ghost use Rattle.block_server.specs.DiskLaw.{KeepsDisk, KeepsDiskBy};
+ghost use Rattle.block_server.specs.Cargo.{AreIdle};
+ghost use Rattle.block_server.specs.Causes.{Told, anything};
+ghost use Rattle.block_server.specs.DiskLaw.{KeepsDisk};
 ghost use Rattle.block_server.specs.Heard.{Tells};
 ghost use Rattle.block_server.specs.Judged.{Judged};
 ghost use Rattle.block_server.specs.Judges.{AreInTime, AreUnused, HasJudged};
 ghost use Rattle.block_server.specs.Makers.{AreNamed};
 ghost use Rattle.block_server.specs.Owed.{HaveAnswers, OweNone};
 ghost use Rattle.block_server.specs.OwnerStrokes.{LaysNoneOfOwner};
-ghost use Rattle.block_server.specs.Ranges.{WritesOn, seen_in};
 ghost use Rattle.block_server.specs.Receipts.{AwaitNone, HasIntake, LinesMore, Receipt};
 ghost use Rattle.block_server.specs.Ready.{AgreesAt, AreDown, UnitWaits};
-ghost use Rattle.block_server.specs.Refusals.{AnswersInOrder, HasExplained, ExplainNone};
+ghost use Rattle.block_server.specs.Refusals.{ExplainNone};
 ghost use Rattle.block_server.specs.Resting.{RestsAt};
-ghost use Rattle.block_server.specs.Asked.{AskInOrder, AskedAt};
-ghost use Rattle.block_server.specs.Rejecting.{LinesTellLogin};
-ghost use Rattle.block_server.specs.RowsOn.{RowsOn};
-ghost use Rattle.block_server.specs.Standing.{LeavesOn, stood};
-ghost use Rattle.block_server.specs.Turns.{IsStill, way_of};
+ghost use Rattle.block_server.specs.TurnReady.{TurnsReady};
+ghost use Rattle.block_server.specs.TurnTold.{GoesByTold, stock};
+ghost use Rattle.block_server.specs.Turns.{IsStill, told_of, way_of};
 ghost use Rattle.block_server.specs.SiteState.{AreReady};
 ghost use Rattle.block_server.specs.Serving.{Terms};
 ghost use Rattle.block_server.specs.Units.{AnswersItsRows, AreGranting, AreInOrder, AreServing, GrantEach, ServesItsRows, grant_of};
-ghost use Rattle.block_server.specs.Written.{AreWritten};
 ghost use Rattle.block_server.specs.declared.unit.Unit.{Unit as UnitValue};
 
 use crate::disk::Disk;
@@ -148,31 +144,17 @@ impl<B: Blocks> Server<B> {
         ensures disk { ∥ KeepsDisk
             self.old.records.history.items self.new.records.history.items
             (B.state self.old.disk.image).blocks (B.state self.new.disk.image).blocks ∥₁ }
-        ensures causes { (told : Told → Bool) → Tells told (O.state own.old).place.unit
+        ensures by_told { (told : Told → Bool) → Tells told (O.state own.old).place.unit
             R.is_shared (O.state own.new) (R.state client.old) (R.state client.new)
             self.old.copies.items self.new.copies.items → AreInOrder told
             self.old.disk.count self.old.partition self.old.units.items self.old.records →
-            KeepsDiskBy told self.old.records.history.items self.new.records.history.items
-            (B.state self.old.disk.image).blocks (B.state self.new.disk.image).blocks }
-        ensures order { (told : Told → Bool) → Tells told (O.state own.old).place.unit
-            R.is_shared (O.state own.new) (R.state client.old) (R.state client.new)
-            self.old.copies.items self.new.copies.items → AreInOrder told
-            self.old.disk.count self.old.partition self.old.units.items self.old.records →
-            AreInOrder told
-            self.new.disk.count self.new.partition self.new.units.items self.new.records }
-        ensures written { (told : Told → Bool) → Tells told (O.state own.old).place.unit
-            R.is_shared (O.state own.new) (R.state client.old) (R.state client.new)
-            self.old.copies.items self.new.copies.items → AreInOrder told
-            self.old.disk.count self.old.partition self.old.units.items self.old.records →
-            AreWritten told self.old.records.history.items →
-            AreWritten told self.new.records.history.items }
-        ensures runs { (told : Told → Bool) → Tells told (O.state own.old).place.unit
-            R.is_shared (O.state own.new) (R.state client.old) (R.state client.new)
-            self.old.copies.items self.new.copies.items → AreInOrder told
-            self.old.disk.count self.old.partition self.old.units.items self.old.records →
-            HasRuns told self.old.units.items unit (O.state own.old) self.old.copies.items
-            self.old.records → HasRuns told self.new.units.items unit (O.state own.new)
-            self.new.copies.items self.new.records }
+            GoesByTold told C.is_shared R.is_shared unit
+            (stock self.old.disk.count self.old.partition self.old.units.items
+            self.old.records self.old.copies.items (B.state self.old.disk.image).blocks)
+            (stock self.new.disk.count self.new.partition self.new.units.items
+            self.new.records self.new.copies.items (B.state self.new.disk.image).blocks)
+            (C.state crq.old) (C.state crq.new) (O.state own.old) (O.state own.new)
+            (R.state client.old) (R.state client.new) result }
         ensures tells { IfSome (B.state self.old.disk.image).blocks
             (λ _. IsSome (B.state self.new.disk.image).blocks) }
         ensures quiet { IfOk result (λ moved. moved ≡ Moved.Quiet →
@@ -183,6 +165,7 @@ impl<B: Blocks> Server<B> {
         ensures event { KeepsFreed (C.state crq.new) }
         ensures units { vec_len self.new.units ≡ vec_len self.old.units }
         ensures partition { self.new.partition ≡ self.old.partition }
+        ensures count { self.new.disk.count ≡ self.old.disk.count }
         ensures owner { R.is_shared ≡ false →
             LaysNoneOfOwner (side_of (R.state client.old)) (side_of (R.state client.new)) }
         ensures named { StayNamed R.is_shared (R.state client.old) (R.state client.new)
@@ -223,66 +206,16 @@ impl<B: Blocks> Server<B> {
             self.old.records.history.items self.old.records.grants.items →
             ∥ HaveAnswers self.new.units.items unit (O.state own.old).place.unit
             (C.state crq.new) self.new.records.history.items self.new.records.grants.items ∥₁ }
-        ensures explains { (told : Told → Bool) → Tells told (O.state own.old).place.unit
-            R.is_shared (O.state own.new) (R.state client.old) (R.state client.new)
-            self.old.copies.items self.new.copies.items → AreInOrder told
-            self.old.disk.count self.old.partition self.old.units.items self.old.records →
-            (since : List Grant) → HasExplained
-            told self.old.units.items unit (O.state own.old).place.unit (C.state crq.old)
-            since self.old.records.grants.items → HasExplained
-            told self.new.units.items unit (O.state own.old).place.unit (C.state crq.new)
-            since self.new.records.grants.items }
-        ensures logins { (told : Told → Bool) → Tells told (O.state own.old).place.unit
-            R.is_shared (O.state own.new) (R.state client.old) (R.state client.new)
-            self.old.copies.items self.new.copies.items → AreInOrder told
-            self.old.disk.count self.old.partition self.old.units.items self.old.records →
-            (since : List Grant) → HasExplained
-            told self.old.units.items unit (O.state own.old).place.unit (C.state crq.old)
-            since self.old.records.grants.items → (earlier : List AskedAt) →
-            AskInOrder earlier self.old.units.items unit (C.state crq.old) →
-            LinesTellLogin self.old.units.items unit (O.state own.old).place.unit
-            (C.state crq.old) self.old.records.grants.items → (closed : ℕ → Bool) →
-            KnowsSends (AgreesAt self.old.units.items unit (C.state crq.old))
-            C.is_shared (C.state crq.old) (C.state crq.new) closed →
-            HasDealt told earlier closed self.old.units.items unit
-            (O.state own.old).place.unit (C.state crq.old) → AnswersInOrder
-            told earlier closed self.new.units.items unit (O.state own.old).place.unit
-            (C.state crq.old) (C.state crq.new) self.old.records self.new.records }
-        ensures talks { (words : List Word) → (u : UnitValue) →
+        ensures if_ready { (words : List Word) → (u : UnitValue) →
             slice_get self.old.units.items unit ≡ Some u →
             IsTurnReady u (reach (C.state crq.old) (R.state client.old) R.is_shared)
-            C.is_shared words → OnOk result (UnitTalksOn self.new.units.items unit u
-            (reach (C.state crq.old) (R.state client.old) R.is_shared) (C.state crq.new)
-            self.old.records.grants.items self.new.records.grants.items words) }
-        ensures writes { (told : Told → Bool) → Tells told (O.state own.old).place.unit
-            R.is_shared (O.state own.new) (R.state client.old) (R.state client.new)
-            self.old.copies.items self.new.copies.items → AreInOrder told
-            self.old.disk.count self.old.partition self.old.units.items self.old.records →
-            (words : List Word) → (u : UnitValue) →
-            slice_get self.old.units.items unit ≡ Some u →
-            IsTurnReady u (reach (C.state crq.old) (R.state client.old) R.is_shared)
-            C.is_shared words →
-            OnOk result (WritesOn (told_to told (O.state own.old).place.unit) u
-            (C.state crq.old) words (seen_in R.is_shared (R.state client.old))
-            (seen_in R.is_shared (R.state client.new))) }
-        ensures places { (words : List Word) → (u : UnitValue) →
-            slice_get self.old.units.items unit ≡ Some u →
-            IsTurnReady u (reach (C.state crq.old) (R.state client.old) R.is_shared)
-            C.is_shared words → OnOk result (WritesOn (stood (R.state client.old)) u
-            (C.state crq.old) words (seen_in R.is_shared (R.state client.old))
-            (seen_in R.is_shared (R.state client.new))) }
-        ensures leaves { (words : List Word) → (u : UnitValue) →
-            slice_get self.old.units.items unit ≡ Some u →
-            IsTurnReady u (reach (C.state crq.old) (R.state client.old) R.is_shared)
-            C.is_shared words → OnOk result (LeavesOn (O.state own.old).place.unit u
-            (C.state crq.old) words (C.state crq.new) (R.state client.old)
-            (R.state client.new) self.old.records.history.items
-            self.new.records.history.items) }
-        ensures rows { (words : List Word) → (u : UnitValue) →
-            slice_get self.old.units.items unit ≡ Some u →
-            IsTurnReady u (reach (C.state crq.old) (R.state client.old) R.is_shared)
-            C.is_shared words → OnOk result (RowsOn u (C.state crq.old) words
-            self.old.records.history.items self.new.records.history.items) }
+            C.is_shared words → TurnsReady R.is_shared unit u (O.state own.old).place.unit words
+            (stock self.old.disk.count self.old.partition self.old.units.items
+            self.old.records self.old.copies.items (B.state self.old.disk.image).blocks)
+            (stock self.new.disk.count self.new.partition self.new.units.items
+            self.new.records self.new.copies.items (B.state self.new.disk.image).blocks)
+            (C.state crq.old) (C.state crq.new)
+            (R.state client.old) (R.state client.new) result }
         ensures opens { (u : UnitValue) → slice_get self.old.units.items unit ≡ Some u →
             IsNewThere u (reach (C.state crq.old) (R.state client.old) R.is_shared)
             C.is_shared → OnOk result (UnitOpensOn self.new.units.items unit u
@@ -290,6 +223,14 @@ impl<B: Blocks> Server<B> {
             (reach (C.state crq.new) (R.state client.new) R.is_shared)
             self.old.records.grants.items self.new.records.grants.items
             self.old.records.history.items self.new.records.history.items) }
+        ensures does { C.is_shared ≡ false → R.is_shared ≡ false → (u : UnitValue) → slice_get
+            self.old.units.items unit ≡ Some u → IsAtRest (doing_at u (O.state
+            own.old).place.unit (C.state crq.old) (R.state client.old)
+            self.old.records.history.items self.old.records.grants.items) → OnOk result (UnitDoes
+            self.new.units.items unit u (O.state own.old).place.unit (C.state crq.old) (C.state
+            crq.new) (R.state client.old) (R.state client.new) self.old.records.history.items
+            self.new.records.history.items self.old.records.grants.items
+            self.new.records.grants.items) }
     {
         let id = UnitId {
             partition: self.partition,
@@ -303,12 +244,10 @@ impl<B: Blocks> Server<B> {
             client,
             copies: &mut self.copies,
         };
-        turn(
-            &mut self.units[unit as usize],
-            &mut ports,
-            &mut self.records,
-            &mut self.disk,
-        )
+        let turned = &mut self.units[unit as usize];
+        turned.moved = false;
+        let done = turn(turned, &mut ports, &mut self.records, &mut self.disk);
+        told(done, turned.moved)
     }
 
     /// The requests that were served, in the order of their disk steps.
@@ -340,6 +279,17 @@ impl<B: Blocks> Server<B> {
             grants,
             copies,
         }
+    }
+}
+
+// Tells whether a turn did something.
+fn told(done: Result<(), NoMemory>, moved: bool) -> Result<Moved, NoMemory>
+    ensures { result ≡ told_of done moved }
+{
+    match done {
+        Ok(()) if moved => Ok(Moved::Moved),
+        Ok(()) => Ok(Moved::Quiet),
+        Err(memory) => Err(memory),
     }
 }
 

@@ -1,4 +1,6 @@
 // The service of the oldest request: what it asks is done, and then it is answered.
+ghost use Rattle.block_server.specs.Doings.{DoesTurn, IsFree, doing};
+ghost use Rattle.block_server.specs.Receipts.{is_ended};
 ghost use Rattle.block_server.specs.declared.request.Order.{Order as Asked};
 ghost use Rattle.block_server.specs.Talk.{IsServable, ServesFirst, StaysKnown, SuitsStage, reach_of};
 ghost use Rattle.block_server.specs.Cargo.{AreShown, IsAccounted, IsFetchedAll, KeepsCargo, Sight, cargo_at, cargo_of, command_of, data_bytes, is_loaded, pages_of, seen};
@@ -125,12 +127,19 @@ pub(crate) fn serve<S: Site, B: Blocks>(
         (S.state site.old).own.place.unit request (S.state site.new).queue
         (S.state site.old).client (S.state site.new).client
         records.old.history.items records.new.history.items) }
+    ensures out { (request : Request) → (rest : List Request) →
+        unit.old.pending.items ≡ request ∷ rest → request.order ≡ Order.Logout →
+        S.state site.new ≡ S.state site.old }
     ensures rows { (request : Request) → (rest : List Request) →
         IsServable unit.old (reach_of (S.state site.old)) S.link_shared request rest →
         OnOk result (AddsFor unit.old.id request
         records.old.history.items records.new.history.items) }
     ensures no_row { unit.old.pending.items ≡ [] →
         records.new.history.items ≡ records.old.history.items }
+    ensures does { S.link_shared ≡ false → (S.state site.old).shared ≡ false → IsFree (doing
+        unit.old (S.state site.old) records.old) → is_ended unit.old.line ≡ false ⊎
+        (unit.old.pending.items ≡ []) → OnOk result (DoesTurn (doing unit.old (S.state site.old)
+        records.old) (doing unit.new (S.state site.new) records.new)) }
 {
     let Some(request) = unit.pending.front() else {
         return Ok(());

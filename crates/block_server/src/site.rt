@@ -218,7 +218,9 @@ pub(crate) trait Site {
             (length bytes.now) (slice_index bytes.now))
             (client_known (state self.old)) (client_known (state self.new)) }
         ensures laid { OnOk result (Stands (state self.new).client
-            (own_name (state self.old).own mark) address bytes.now) };
+            (own_name (state self.old).own mark) address bytes.now) }
+        ensures missed { OnErr result
+            (client_known (state self.new) ≡ client_known (state self.old)) };
 
     /// Copies data from this address of the client's window to a place of the data's pages.
     fn fetch_data(&mut self, at: u32, address: u64, len: u32) -> Result<(), Halt>

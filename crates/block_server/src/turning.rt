@@ -1,4 +1,5 @@
 // The steps of a unit's turn.
+ghost use Rattle.block_server.specs.Doings.{DoesTurn, IsAtRest, KeepsNoAnswer, StepsAside, doing};
 ghost use Rattle.block_server.specs.Talk.{BeginsAlone, IsNewThere, IsTurnReady, OpensOn, OpensUnit, Replies, TalksOn, Word, reach_of};
 ghost use Rattle.crq_session.specs.Answered.{taken_now};
 ghost use Rattle.block_server.specs.Cargo.{IsAccounted, cargo_of};
@@ -20,7 +21,7 @@ ghost use Rattle.block_server.specs.Resting.{IsResting};
 ghost use Rattle.block_server.specs.RowsOn.{RowsOn};
 ghost use Rattle.block_server.specs.Standing.{LeavesOn, stood};
 ghost use Rattle.block_server.specs.Steps.{ComesOn, NoStage, OtherStage};
-ghost use Rattle.block_server.specs.Turns.{IfQuiet, IsQuietTurn, IsStill, under_way};
+ghost use Rattle.block_server.specs.Turns.{IfQuiet};
 ghost use Rattle.block_server.specs.Waits.{AsNext, IsIdle, PassesEvent, StandsOpen, StaysAgreed, StopsOpening};
 
 use crate::answering::{put_kept, put_reply};
@@ -33,102 +34,13 @@ use crate::site::Site;
 use crate::unit::Unit;
 use crq_session::{EventAnswer, FreeAnswer, Handshake, RegAnswer};
 use vio_io::Blocks;
-use vio_num::{Grant, Moved, NoMemory};
+use vio_num::{Grant, NoMemory};
 
 /// The calls of the queue before intake, but for the kept entry's.
 const FIRST_CALLS: u32 = 4;
 
-/// One turn of a unit.
+/// One turn of a unit: goes through its steps, up to the one that ends the turn.
 pub(crate) fn turn<S: Site, B: Blocks>(
-    unit: &mut Unit,
-    site: &mut S,
-    records: &mut Records,
-    disk: &mut Disk<B>,
-) -> Result<Moved, NoMemory>
-    ensures rests { S.link_shared ≡ false → IsResting unit.old (S.state site.old).queue →
-        IfOk result (λ moved. moved ≡ Moved.Quiet) }
-    ensures moved { (told : Told → Bool) →
-        IsServing (terms_of told disk.old.count) (desk_of unit.old) records.old.history.items →
-        IfOk result (λ moved. moved ≡ Moved.Moved →
-        ¬ (IsStill (S.state site.old).queue (S.state site.new).queue ×
-        (under_way unit.new ≡ under_way unit.old))) }
-    ensures once { (told : Told → Bool) →
-        TellsAll told unit.old.id (S.state site.old) (S.state site.new) → AnswersOnceOn
-        (held told disk.old.count (B.state disk.old.image).blocks)
-        (held told disk.new.count (B.state disk.new.image).blocks)
-        (desk_of unit.old) (desk_of unit.new)
-        (S.state site.old).queue (S.state site.new).queue records.old records.new }
-    ensures quiet { IfOk result (λ moved. moved ≡ Moved.Quiet →
-        IsQuietTurn unit.old unit.new (S.state site.old).queue (S.state site.new).queue) }
-    ensures waits { IfOk result (λ moved. moved ≡ Moved.Quiet →
-        IsIdle S.link_shared (S.state site.old) (S.state site.new) unit.new) }
-    ensures agrees { StaysAgreed unit.old unit.new
-        (S.state site.old).queue (S.state site.new).queue }
-    ensures advances { Advances (S.state site.old) (S.state site.new) }
-    ensures intake { TakesIn (standing_of unit.old) (standing_of unit.new)
-        (S.state site.old) (S.state site.new)
-        records.old.grants.items records.new.grants.items }
-    ensures judges { Judges
-        (standing_of unit.old) (standing_of unit.new) (S.state site.old) (S.state site.new)
-        (books_at unit.old (S.state site.old) records.old)
-        (books_at unit.new (S.state site.new) records.new) }
-    ensures answers { KeepsAnswersAll S.link_shared unit.old unit.new
-        (S.state site.old) (S.state site.new) records.old records.new }
-    ensures cargo { (told : Told → Bool) → (asked : Bool) →
-        TellsAll told unit.old.id (S.state site.old) (S.state site.new) →
-        IsServing (terms_of told disk.old.count) (desk_of unit.old) records.old.history.items →
-        IsAccounted told asked (cargo_of unit.old (S.state site.old) records.old) →
-        IsAccounted told asked (cargo_of unit.new (S.state site.new) records.new) }
-    ensures refuses { (told : Told → Bool) →
-        ExplainsOn S.link_shared unit.old.line.handshake (terms_of told disk.old.count)
-        (S.state site.old) (S.state site.new) (desk_of unit.old) records.old.history.items
-        (ledger_of unit.old (S.state site.old) records.old)
-        (ledger_of unit.new (S.state site.new) records.new) }
-    ensures talks { (words : List Word) →
-        IsTurnReady unit.old (reach_of (S.state site.old)) S.link_shared words →
-        OnOk result (TalksOn unit.old unit.new
-        (reach_of (S.state site.old)) (S.state site.new).queue
-        records.old.grants.items records.new.grants.items words) }
-    ensures writes { (told : Told → Bool) →
-        TellsAll told unit.old.id (S.state site.old) (S.state site.new) →
-        IsServing (terms_of told disk.old.count) (desk_of unit.old) records.old.history.items →
-        (words : List Word) →
-        IsTurnReady unit.old (reach_of (S.state site.old)) S.link_shared words →
-        OnOk result (WritesOn (told_to told unit.old.id) unit.old
-        (S.state site.old).queue words
-        (client_known (S.state site.old)) (client_known (S.state site.new))) }
-    ensures places { (words : List Word) →
-        IsTurnReady unit.old (reach_of (S.state site.old)) S.link_shared words →
-        OnOk result (WritesOn (stood (S.state site.old).client) unit.old
-        (S.state site.old).queue words
-        (client_known (S.state site.old)) (client_known (S.state site.new))) }
-    ensures leaves { (words : List Word) →
-        IsTurnReady unit.old (reach_of (S.state site.old)) S.link_shared words →
-        OnOk result (LeavesOn (S.state site.old).own.place.unit unit.old
-        (S.state site.old).queue words (S.state site.new).queue
-        (S.state site.old).client (S.state site.new).client
-        records.old.history.items records.new.history.items) }
-    ensures opens { IsNewThere unit.old (reach_of (S.state site.old)) S.link_shared →
-        OnOk result (OpensOn unit.old unit.new
-        (reach_of (S.state site.old)) (reach_of (S.state site.new))
-        records.old.grants.items records.new.grants.items
-        records.old.history.items records.new.history.items) }
-    ensures rows { (words : List Word) →
-        IsTurnReady unit.old (reach_of (S.state site.old)) S.link_shared words →
-        OnOk result (RowsOn unit.old (S.state site.old).queue words
-        records.old.history.items records.new.history.items) }
-{
-    unit.moved = false;
-    steps(unit, site, records, disk)?;
-    Ok(if unit.moved {
-        Moved::Moved
-    } else {
-        Moved::Quiet
-    })
-}
-
-// Goes through the steps, up to the one that ends the turn.
-fn steps<S: Site, B: Blocks>(
     unit: &mut Unit,
     site: &mut S,
     records: &mut Records,
@@ -205,6 +117,9 @@ fn steps<S: Site, B: Blocks>(
         IsTurnReady unit.old (reach_of (S.state site.old)) S.link_shared words →
         OnOk result (RowsOn unit.old (S.state site.old).queue words
         records.old.history.items records.new.history.items) }
+    ensures does { S.link_shared ≡ false → (S.state site.old).shared ≡ false → IsAtRest (doing
+        unit.old (S.state site.old) records.old) → OnOk result (DoesTurn (doing unit.old (S.state
+        site.old) records.old) (doing unit.new (S.state site.new) records.new)) }
 {
     if open_line(unit, site)? == Next::End {
         return Ok(());
@@ -261,6 +176,9 @@ fn open_line<S: Site>(unit: &mut Unit, site: &mut S) -> Result<Next, NoMemory>
     ensures opens { IsNewThere unit.old (reach_of (S.state site.old)) S.link_shared →
         IfOk result (λ next. (next ≡ Next.End) × OpensUnit unit.old unit.new
         (reach_of (S.state site.old)) (reach_of (S.state site.new))) }
+    ensures does { (records : Records) → S.link_shared ≡ false → IsAtRest (doing unit.old
+        (S.state site.old) records) → OnOk result (DoesTurn (doing unit.old (S.state site.old)
+        records) (doing unit.new (S.state site.new) records)) }
 {
     site.reserve(FIRST_CALLS)?;
     if push_event(unit, site) == Next::End {
@@ -309,6 +227,8 @@ fn push_event<S: Site>(unit: &mut Unit, site: &mut S) -> Next
         Replies (S.state site.old).queue (S.state site.new).queue [] ×
         ((S.state site.new).client ≡ (S.state site.old).client) }
     ensures event { (S.state site.old).queue.kept ≡ None → (S.state site.new).queue.kept ≡ None }
+    ensures aside { (records : Records) → S.link_shared ≡ false → StepsAside (doing unit.old
+        (S.state site.old) records) (doing unit.new (S.state site.new) records) }
 {
     match site.push_event() {
         EventAnswer::Nothing => Next::Entry,
@@ -349,6 +269,8 @@ fn free_closed<S: Site>(unit: &mut Unit, site: &mut S) -> Next
     ensures refuses { (records : Records) → Explains
         (ledger_of unit.old (S.state site.old) records)
         (ledger_of unit.new (S.state site.new) records) }
+    ensures aside { (records : Records) → S.link_shared ≡ false → StepsAside (doing unit.old
+        (S.state site.old) records) (doing unit.new (S.state site.new) records) }
 {
     if !unit.line.closing {
         return Next::Entry;
@@ -386,6 +308,8 @@ fn free<S: Site>(unit: &mut Unit, site: &mut S) -> Next
     ensures refuses { (records : Records) → unit.old.line.closing ≡ true → Explains
         (ledger_of unit.old (S.state site.old) records)
         (ledger_of unit.new (S.state site.new) records) }
+    ensures aside { (records : Records) → S.link_shared ≡ false → StepsAside (doing unit.old
+        (S.state site.old) records) (doing unit.new (S.state site.new) records) }
 {
     match site.free() {
         FreeAnswer::Busy { .. } => Next::End,
@@ -406,6 +330,7 @@ fn register<S: Site>(unit: &mut Unit, site: &mut S)
     requires spare { 1 < (S.state site.old).queue.spare }
     requires down { unit.old.line.handshake ≡ Handshake.Down }
     requires stays { unit.old.line.closing ≡ false }
+    ensures waiting { unit.new.waiting ≡ unit.old.waiting }
     ensures comes { ComesOn NoStage unit.old unit.new
         (S.state site.old).queue (S.state site.new).queue }
     ensures once { (records : Records) → AnswersOnce (desk_of unit.old) (desk_of unit.new)
@@ -435,6 +360,9 @@ fn register<S: Site>(unit: &mut Unit, site: &mut S)
         (ledger_of unit.new (S.state site.new) records) }
     ensures opens { IsNewThere unit.old (reach_of (S.state site.old)) S.link_shared →
         OpensUnit unit.old unit.new (reach_of (S.state site.old)) (reach_of (S.state site.new)) }
+    ensures aside { (records : Records) → S.link_shared ≡ false → KeepsNoAnswer
+        unit.old.line.kept → StepsAside (doing unit.old (S.state site.old) records) (doing
+        unit.new (S.state site.new) records) }
 {
     match site.register() {
         RegAnswer::Success => begin(unit, site),
@@ -473,6 +401,9 @@ fn begin<S: Site>(unit: &mut Unit, site: &mut S)
     ensures alone { S.link_shared ≡ false →
         (S.state site.old).queue.place.partner_registered ≡ false → BeginsAlone
         unit.old unit.new (reach_of (S.state site.old)) (reach_of (S.state site.new)) }
+    ensures aside { (records : Records) → S.link_shared ≡ false → KeepsNoAnswer
+        unit.old.line.kept → StepsAside (doing unit.old (S.state site.old) records) (doing
+        unit.new (S.state site.new) records) }
 {
     unit.moved = true;
     if let Some(initialize) = reply_of(unit.line.handshake.registered()) {

@@ -31,6 +31,7 @@ use Rattle.block_server.proofs.Taking.{waiting_stands}
 use Rattle.block_server.proofs.Talking.{not_in_use}
 use Rattle.block_server.proofs.RangeLaws.{lays_none}
 use Rattle.block_server.proofs.Bearing.{bears_none}
+use Rattle.block_server.proofs.DoingAnswers.{refused_drops, writes_answer}
 use Rattle.block_server.proofs.answering.copy_answer.Goals as goal
 
 pub returns-in_default-clause-once : goal.returns-in_default-clause-once
@@ -240,3 +241,37 @@ returns-in-Busy-clause-bears g c = λ request rest parts. c.deliver.ensures.bear
 
 pub returns-in-Refused-clause-bears : goal.returns-in-Refused-clause-bears
 returns-in-Refused-clause-bears g c = λ request rest parts. c.deliver.ensures.bears request rest parts
+
+pub returns-in_err-deliver-clause-waiting : goal.returns-in_err-deliver-clause-waiting
+returns-in_err-deliver-clause-waiting g c = λ none. waiting_stands _ _ c.deliver.ensures.stands ∙ none
+
+pub returns-in-Done-clause-waiting : goal.returns-in-Done-clause-waiting
+returns-in-Done-clause-waiting g c = λ none. waiting_stands _ _ c.deliver.ensures.stands ∙ none
+
+pub returns-in-Busy-clause-waiting : goal.returns-in-Busy-clause-waiting
+returns-in-Busy-clause-waiting g c = λ none. waiting_stands _ _ c.deliver.ensures.stands ∙ none
+
+pub returns-in-Refused-clause-waiting : goal.returns-in-Refused-clause-waiting
+returns-in-Refused-clause-waiting g c = λ none. c.end_session.ensures.ends.waiting
+
+pub returns-in-Refused-clause-stands : goal.returns-in-Refused-clause-stands
+returns-in-Refused-clause-stands g c = λ outcome at. absurd (cc (c.end_session.ensures.stage, at))
+
+pub returns-in_default-clause-does : goal.returns-in_default-clause-does
+returns-in_default-clause-does g c = λ request rest outcome at parts alone. absurd (c.in_default.not-Answer outcome at)
+
+pub returns-in-Done-clause-does : goal.returns-in-Done-clause-does
+returns-in-Done-clause-does g c = λ request rest outcome at parts alone.
+    inl (writes_answer c.args.unit.now c.deliver.new.unit (g.S.Site.state c.args.site.now) (g.S.Site.state c.deliver.new.site) c.args.records.now _ request rest alone parts c.in-Answer.is
+    (c.in_ok-deliver.ensures.entry c.in-Done.is) c.deliver.ensures.id (λ i. (c.deliver.ensures.answer i).items) c.deliver.ensures.pending c.deliver.ensures.line c.deliver.ensures.logins
+    c.deliver.ensures.queue c.deliver.ensures.advances (c.in_ok-deliver.ensures.laid c.in-Done.is request rest parts) (c.deliver.ensures.bears request rest parts))
+
+pub returns-in-Busy-clause-does : goal.returns-in-Busy-clause-does
+returns-in-Busy-clause-does g c = λ request rest outcome at parts alone.
+    absurd (not_in_use (g.S.Site.state c.args.site.now) (g.S.Site.state c.deliver.new.site) alone (c.in_ok-deliver.ensures.busy c.in-Busy.is (is_pending _ rest request parts)))
+
+pub returns-in-Refused-clause-does : goal.returns-in-Refused-clause-does
+returns-in-Refused-clause-does g c = λ request rest outcome at parts alone.
+    inr (refused_drops c.args.unit.now c.deliver.new.unit c.end_session.new.unit (g.S.Site.state c.args.site.now) (g.S.Site.state c.deliver.new.site) c.args.records.now c.end_session.new.records
+    _ _ Refused 0 0 c.end_session.ensures.ends c.deliver.ensures.id c.deliver.ensures.logins (c.in_ok-deliver.ensures.stays c.in-Refused.is) c.end_session.ensures.row c.end_session.ensures.id
+    c.end_session.ensures.stage c.deliver.ensures.queue c.deliver.ensures.advances (c.in_ok-deliver.ensures.missed c.in-Refused.is alone))

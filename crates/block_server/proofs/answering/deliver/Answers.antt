@@ -31,6 +31,12 @@ use Rattle.block_server.proofs.Standing.{stands_same}
 use Rattle.block_server.proofs.LastRows.{row_same}
 use Rattle.block_server.proofs.AnswerBearing.{answer_bears}
 use Rattle.block_server.proofs.Bearing.{bears_none}
+use Rattle.block_server.proofs.Stood.{stays_after}
+use Rattle.block_server.proofs.DoingAsides.{known_equal}
+use Rattle.block_server.specs.Ranges.{client_known}
+use Rattle.block_server.specs.declared.site.Halt.{Halt}
+use Rattle.std.proofs.Common.{Result, OnErr}
+use Rattle.std.specs.Prelude.{⊤}
 use Rattle.block_server.proofs.answering.deliver.Goals as goal
 
 pub returns-in_default-clause-once : goal.returns-in_default-clause-once
@@ -203,3 +209,8 @@ returns-in-Err-NoMemory-clause-bears g c = λ request rest parts.
     let same : c.deref.result.now ≡ c.args.unit.now.service.answer.items = search (rules, c.deref.ensures) in
     answer_bears (g.S.Site.state c.args.site.now).own c.in-Some.request.now request c.args.unit.now.pending.items front.0 rest c.deref.result.now c.args.unit.now.service.answer.items _ _ front.1 parts same
     c.deliver_unit.ensures.bears
+
+pub returns-in-Err-Refused-clause-missed : goal.returns-in-Err-Refused-clause-missed
+returns-in-Err-Refused-clause-missed g c = λ is alone.
+    stays_after (g.S.Site.state c.args.site.now).client (g.S.Site.state c.args.site.now) (g.S.Site.state c.deliver_unit.new.self) (known_equal _ _ refl) alone c.deliver_unit.ensures.advances
+    (subst (λ (r : Result ⊤ Halt). OnErr r (client_known (g.S.Site.state c.deliver_unit.new.self) ≡ client_known (g.S.Site.state c.args.site.now))) c.in-Err-Refused.is c.deliver_unit.ensures.missed)

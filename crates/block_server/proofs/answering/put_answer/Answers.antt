@@ -45,6 +45,8 @@ use Rattle.block_server.proofs.Servicing.{no_front, puts_settled, puts_turned}
 use Rattle.block_server.proofs.LastRows.{settled_last}
 use Rattle.block_server.proofs.AnswerBearing.{settled_row}
 use Rattle.block_server.proofs.Servicing.{closed_off}
+use Rattle.block_server.proofs.DoingAnswers.{does_keep, does_lose, does_put, keeps_entry, loses_entry, puts_entry, rests_free, rests_kept}
+use Rattle.block_server.proofs.Serves.{same_sent}
 use Rattle.block_server.proofs.answering.put_answer.Goals as goal
 
 pub returns-in_default-clause-once : goal.returns-in_default-clause-once
@@ -257,3 +259,46 @@ pub returns-in_default-send-clause-settled : goal.returns-in_default-send-clause
 returns-in_default-send-clause-settled g c = λ request rest place parts alone on room both is row there.
     let none = closed_off _ (g.S.Site.state c.args.site.now).queue (g.S.Site.state c.send.new.self).queue c.send.result alone on c.in_default-send.not-Success c.in_default-send.not-Dropped c.send.ensures.closed c.send.ensures.unregistered in
     absurd (cc (both, none))
+
+pub returns-in_default-clause-does : goal.returns-in_default-clause-does
+returns-in_default-clause-does g c = λ request rest parts alone. absurd (no_front _ request rest parts (search rules))
+
+pub returns-in-Success-clause-does : goal.returns-in-Success-clause-does
+returns-in-Success-clause-does g c = λ request rest parts alone.
+    let front = front_is _ _ c.in-Some.ensures.item.3 in
+    does_put _ _ (puts_entry c.args.unit.now c.settle.new.unit (g.S.Site.state c.args.site.now) (g.S.Site.state c.send.new.self) c.args.records.now c.settle.new.records c.args.outcome c.in-Some.request.now front.0 _ _ c.answer_entry-entry.result
+    c.requires.stage front.1 (c.answer_entry-entry.ensures.entry ∙ ap (λ n. srp_entry n c.in-Some.request.now.tag) (c.len.ensures ∙ c.args.unit.now.service.answer.ok.0))
+    c.in-Success.ensures.success.puts.sent c.send.ensures.advances.own_place c.send.ensures.rest.place c.send.ensures.rest.last_session c.send.ensures.rest.taken c.send.ensures.windows.client
+    c.settle.ensures.stands c.settle.ensures.stage (c.settle.ensures.kept ∙ c.requires.none) c.settle.ensures.pending c.settle.ensures.row c.settle.ensures.added)
+
+pub returns-in-Dropped-clause-does : goal.returns-in-Dropped-clause-does
+returns-in-Dropped-clause-does g c = λ request rest parts alone.
+    let front = front_is _ _ c.in-Some.ensures.item.3 in
+    does_keep _ _ (keeps_entry c.args.unit.now (Some (keeps.Answer c.answer_entry-entry.result c.args.outcome)) (g.S.Site.state c.args.site.now) (g.S.Site.state c.send.new.self) c.args.records.now c.args.outcome c.in-Some.request.now front.0
+    c.answer_entry-entry.result c.requires.stage c.requires.none front.1 (c.answer_entry-entry.ensures.entry ∙ ap (λ n. srp_entry n c.in-Some.request.now.tag) (c.len.ensures ∙ c.args.unit.now.service.answer.ok.0))
+    refl c.in-Dropped.ensures.dropped.sent c.send.ensures.advances.own_place c.send.ensures.rest.place c.send.ensures.rest.last_session c.send.ensures.rest.taken c.send.ensures.windows.client)
+
+pub returns-in_default-send-clause-does : goal.returns-in_default-send-clause-does
+returns-in_default-send-clause-does g c = λ request rest parts alone.
+    let front = front_is _ _ c.in-Some.ensures.item.3 in
+    does_lose _ _ (loses_entry c.args.unit.now c.finish.new.unit (g.S.Site.state c.args.site.now) (g.S.Site.state c.send.new.self) c.args.records.now c.args.outcome c.in-Some.request.now front.0
+    c.requires.stage front.1 (same_sent _ _ _ _ c.in_default-send.not-Success c.in_default-send.not-Dropped c.send.ensures.closed c.send.ensures.refused) c.send.ensures.advances.own_place c.send.ensures.rest.place c.send.ensures.rest.last_session c.send.ensures.rest.taken c.send.ensures.windows.client
+    c.finish.ensures.stands c.finish.ensures.stage (c.finish.ensures.kept ∙ c.requires.none) c.finish.ensures.pending c.finish.ensures.logins)
+
+pub returns-in_default-clause-free : goal.returns-in_default-clause-free
+returns-in_default-clause-free g c = λ request rest parts alone waiting going. absurd (no_front _ request rest parts (search rules))
+
+pub returns-in-Success-clause-free : goal.returns-in-Success-clause-free
+returns-in-Success-clause-free g c = λ request rest parts alone waiting going.
+    rests_free c.settle.new.unit (g.S.Site.state c.send.new.self) c.settle.new.records (waiting_stands _ _ c.settle.ensures.stands ∙ waiting) c.settle.ensures.stage (c.settle.ensures.kept ∙ c.requires.none)
+
+pub returns-in-Dropped-clause-free : goal.returns-in-Dropped-clause-free
+returns-in-Dropped-clause-free g c = λ request rest parts alone waiting going.
+    let front = front_is _ _ c.in-Some.ensures.item.3 in
+    rests_kept c.args.unit.now (Some (keeps.Answer c.answer_entry-entry.result c.args.outcome)) (g.S.Site.state c.send.new.self) c.args.records.now c.args.outcome c.in-Some.request.now front.0 c.answer_entry-entry.result
+    c.requires.stage front.1 (c.answer_entry-entry.ensures.entry ∙ ap (λ n. srp_entry n c.in-Some.request.now.tag) (c.len.ensures ∙ c.args.unit.now.service.answer.ok.0))
+    refl waiting going
+
+pub returns-in_default-send-clause-free : goal.returns-in_default-send-clause-free
+returns-in_default-send-clause-free g c = λ request rest parts alone waiting going.
+    rests_free c.finish.new.unit (g.S.Site.state c.send.new.self) c.args.records.now (waiting_stands _ _ c.finish.ensures.stands ∙ waiting) c.finish.ensures.stage (c.finish.ensures.kept ∙ c.requires.none)

@@ -13,10 +13,12 @@ use Rattle.block_server.proofs.Jointly.{works, works_none, works_on, works_pass}
 use Rattle.block_server.specs.Owed.{HasAnswers, Owing}
 use Rattle.block_server.proofs.Hands.{keeps_on, keeps_same}
 use Rattle.block_server.specs.LoginAnswers.{login_answers}
-use Rattle.block_server.proofs.ComingParts.{comes_none, comes_received}
+use Rattle.block_server.proofs.ComingParts.{comes_received}
 use Rattle.block_server.proofs.Quieting.{still_equal}
 use Rattle.block_server.specs.Steps.{NoStage}
 use Rattle.block_server.proofs.LastRows.{idle_same, idle_then}
+use Rattle.block_server.proofs.DoingHears.{freely_none}
+use Rattle.block_server.proofs.GoingOn.{none_waits}
 use Rattle.block_server.proofs.intake.receive_waiting.Goals as goal
 
 pub returns-in_default-clause-once : goal.returns-in_default-clause-once
@@ -103,3 +105,12 @@ returns-in_err-make_room-clause-rows g c = idle_same _ _ _ _ (ap (λ (d : Desk).
 
 pub returns-clause-rows : goal.returns-clause-rows
 returns-clause-rows g c = idle_then _ _ _ _ _ _ (idle_same _ _ _ _ (ap (λ (d : Desk). d.stage) c.make_room.ensures.desk) c.make_room.ensures.history) c.receive.ensures.rows
+
+pub returns-in_default-clause-does : goal.returns-in_default-clause-does
+returns-in_default-clause-does g c = λ link alone free. freely_none _ _ refl free
+
+pub returns-clause-does : goal.returns-clause-does
+returns-clause-does g c = λ link alone free. absurd (none_waits _ c.in-Some.arrival (search rules) free.waiting)
+
+pub returns-clause-goes : goal.returns-clause-goes
+returns-clause-goes g c = λ alone on. c.receive.ensures.goes alone (ended_stands _ _ c.make_room.ensures.stands ∙ on)

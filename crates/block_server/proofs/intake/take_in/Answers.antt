@@ -28,6 +28,8 @@ use Rattle.block_server.proofs.Taking.{waiting_stands}
 use Rattle.block_server.specs.Serving.{Desk}
 use Rattle.block_server.specs.Talk.{reach_of}
 use Rattle.block_server.proofs.LastRows.{idle_same, idle_then}
+use Rattle.block_server.proofs.DoingHears.{freely_next}
+use Rattle.block_server.proofs.Taking.{ended_stands}
 use Rattle.block_server.proofs.intake.take_in.Goals as goal
 
 pub returns-in_err-next-clause-once : goal.returns-in_err-next-clause-once
@@ -59,6 +61,7 @@ loop-taken-init g c = record {
   hears = λ words calm. hears_begin _ _ _ _ _ _ _ words (c.in_ok-next.ensures.rests calm.waiting).1 (ap reach_of (c.in_ok-next.ensures.rests calm.waiting).2) (c.in_ok-next.ensures.lines calm.waiting) calm;
   may = λ on. c.in_ok-next.ensures.goes_on on (search rules);
   idle = c.receive_waiting.ensures.rows;
+  does = λ link alone free. c.in_ok-next.ensures.does link alone free;
 }
 
 pub returns-in_err-make_room-clause-once : goal.returns-in_err-make_room-clause-once
@@ -121,6 +124,8 @@ loop-taken-preserved g c = record {
       c.make_room.ensures.talk (ap (λ (d : Desk). d.stage) c.make_room.ensures.desk) c.make_room.ensures.line (waiting_stands _ _ c.make_room.ensures.stands) c.make_room.ensures.grants c.in_ok-next-2.ensures.hears);
   may = λ on. c.in_ok-next-2.ensures.goes_on (may_stands _ _ c.make_room.ensures.stands (c.loop-taken.invariant.may on)) (search rules);
   idle = idle_then _ _ _ _ _ _ (idle_then _ _ _ _ _ _ c.loop-taken.invariant.idle (idle_same _ _ _ _ (ap (λ (d : Desk). d.stage) c.make_room.ensures.desk) c.make_room.ensures.history)) c.take_one.ensures.rows;
+  does = λ link alone free. freely_next _ _ _ _ (c.make_room.ensures.doing (g.S.Site.state c.loop-taken.site)) (c.loop-taken.invariant.does link alone free)
+      (λ on. c.in_ok-next-2.ensures.does link (c.loop-taken.invariant.advances.shared ∙ alone) on);
 }
 
 pub returns-after-loop-taken-clause-once : goal.returns-after-loop-taken-clause-once
@@ -309,3 +314,26 @@ returns-after-loop-taken-clause-rows g c = c.loop-taken.invariant.idle
 
 pub returns-else-len-lt-MOST_PENDING-clause-rows : goal.returns-else-len-lt-MOST_PENDING-clause-rows
 returns-else-len-lt-MOST_PENDING-clause-rows g c = c.loop-taken.invariant.idle
+
+pub returns-then-ne-2-clause-does : goal.returns-then-ne-2-clause-does
+returns-then-ne-2-clause-does g c = λ link alone free. freely_next _ _ _ _ (c.make_room.ensures.doing (g.S.Site.state c.loop-taken.site)) (c.loop-taken.invariant.does link alone free)
+    (λ on. c.in_ok-next-2.ensures.does link (c.loop-taken.invariant.advances.shared ∙ alone) on)
+
+pub returns-after-loop-taken-clause-does : goal.returns-after-loop-taken-clause-does
+returns-after-loop-taken-clause-does g c = c.loop-taken.invariant.does
+
+pub returns-else-len-lt-MOST_PENDING-clause-does : goal.returns-else-len-lt-MOST_PENDING-clause-does
+returns-else-len-lt-MOST_PENDING-clause-does g c = c.loop-taken.invariant.does
+
+pub returns-then-ne-clause-goes : goal.returns-then-ne-clause-goes
+returns-then-ne-clause-goes g c = λ link alone on. c.in_ok-next.ensures.goes alone on
+
+pub returns-then-ne-2-clause-goes : goal.returns-then-ne-2-clause-goes
+returns-then-ne-2-clause-goes g c = λ link alone on.
+    c.in_ok-next-2.ensures.goes (c.loop-taken.invariant.advances.shared ∙ alone) (ended_stands _ _ c.make_room.ensures.stands ∙ (c.loop-taken.invariant.may on).goes_on)
+
+pub returns-after-loop-taken-clause-goes : goal.returns-after-loop-taken-clause-goes
+returns-after-loop-taken-clause-goes g c = λ link alone on more. (c.loop-taken.invariant.may on).goes_on
+
+pub returns-else-len-lt-MOST_PENDING-clause-goes : goal.returns-else-len-lt-MOST_PENDING-clause-goes
+returns-else-len-lt-MOST_PENDING-clause-goes g c = λ link alone on more. (c.loop-taken.invariant.may on).goes_on

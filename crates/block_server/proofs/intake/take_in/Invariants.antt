@@ -4,6 +4,7 @@ use Rattle.block_server.proofs.Listening.{HearsSome}
 use Rattle.block_server.specs.Advances.{Advances}
 use Rattle.block_server.specs.Books.{books_at}
 use Rattle.block_server.specs.Cargo.{KeepsCargo, cargo_of}
+use Rattle.block_server.specs.Doings.{DoesFreely, IsFree, doing}
 use Rattle.block_server.specs.Judges.{Judges}
 use Rattle.block_server.specs.Owed.{KeepsAnswers}
 use Rattle.block_server.specs.Receipts.{MayTake, TakesIn, is_ended, standing_of}
@@ -38,6 +39,8 @@ invariant-loop-taken g l = record {
       → HearsSome g.S.Site.link_shared l.fn.unit l.unit (reach_of (g.S.Site.state l.fn.site)) (reach_of (g.S.Site.state l.site)) l.fn.records.grants.items l.records.grants.items words l.taken;
   may : is_ended l.fn.unit.line ≡ false → MayTake (standing_of l.unit);
   idle : KeepsIdleRows l.fn.unit.service.stage l.unit.service.stage l.fn.records.history.items l.records.history.items;
+  does : g.S.Site.link_shared ≡ false → (g.S.Site.state l.fn.site).shared ≡ false → IsFree (doing l.fn.unit (g.S.Site.state l.fn.site) l.fn.records)
+      → DoesFreely (doing l.fn.unit (g.S.Site.state l.fn.site) l.fn.records) (doing l.unit (g.S.Site.state l.site) l.records);
 }
 
 abbrev pub decreases-loop-taken : goal.decreases-loop-taken

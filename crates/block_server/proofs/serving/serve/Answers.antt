@@ -22,7 +22,7 @@ use Rattle.block_server.proofs.Keeping.{moved_to}
 use Rattle.block_server.specs.Judged.{AreKept, Books, IsFor, gets_row, is_login, keys_of}
 use Rattle.block_server.specs.Books.{books_at, next_of}
 use Rattle.block_server.proofs.Taking.{waiting_stands}
-use Rattle.std.proofs.Common.{◌≡◌, false}
+use Rattle.std.proofs.Common.{◌≡◌, ◌≢◌, false}
 use Rattle.std.proofs.Common.{List}
 use Rattle.block_server.proofs.Owing.{owes_seen, seen_same}
 use Rattle.block_server.proofs.OwingRows.{front_under, owes_moved}
@@ -65,6 +65,10 @@ use Rattle.block_server.specs.Standing.{stood}
 use Rattle.block_server.proofs.LastRows.{adds_first}
 use Rattle.block_server.specs.Judged.{row_in}
 use Rattle.std.proofs.Common.{inr}
+use Rattle.block_server.proofs.DoingAnswers.{doing_same, rests_free, turn_from, turn_none, turn_one}
+use Rattle.block_server.proofs.DoingServes.{does_log_out, does_prepare, logs_out_first, made_alone, pending_on, prepares, turn_then}
+use Rattle.block_server.proofs.Taking.{id_stands}
+use Rattle.block_server.specs.Receipts.{is_ended}
 use Rattle.block_server.proofs.serving.serve.Goals as goal
 
 pub returns-clause-advances : goal.returns-clause-advances
@@ -464,6 +468,27 @@ returns-clause-leaves g c = λ request rest servable other.
     (λ not. c.answer.ensures.kept not)
     (λ parts. c.answer.ensures.bears request rest parts)
 
+pub returns-in_default-clause-out : goal.returns-in_default-clause-out
+returns-in_default-clause-out g c = λ request rest parts asked. absurd (no_front _ request rest parts (search rules))
+
+pub returns-in_err-make_room-clause-out : goal.returns-in_err-make_room-clause-out
+returns-in_err-make_room-clause-out g c = λ request rest parts asked. refl
+
+pub returns-in-Logout-clause-out : goal.returns-in-Logout-clause-out
+returns-in-Logout-clause-out g c = λ request rest parts asked. refl
+
+pub returns-in_err-prepare-clause-out : goal.returns-in_err-prepare-clause-out
+returns-in_err-prepare-clause-out g c = λ request rest parts asked.
+    let front = front_is _ _ c.in-Some.ensures.item.3 in
+    let other : c.in-Some.request.now.order ≢ orders.Logout = search rules in
+    absurd (other (ap (λ (r : Request). r.order) (first_same _ c.in-Some.request.now request front.0 rest front.1 parts) ∙ asked))
+
+pub returns-clause-out : goal.returns-clause-out
+returns-clause-out g c = λ request rest parts asked.
+    let front = front_is _ _ c.in-Some.ensures.item.3 in
+    let other : c.in-Some.request.now.order ≢ orders.Logout = search rules in
+    absurd (other (ap (λ (r : Request). r.order) (first_same _ c.in-Some.request.now request front.0 rest front.1 parts) ∙ asked))
+
 pub returns-in_default-clause-placed : goal.returns-in_default-clause-placed
 returns-in_default-clause-placed g c = λ client same alone start request rest parts. lays_none _ _
 
@@ -524,3 +549,35 @@ pub returns-clause-no_row : goal.returns-clause-no_row
 returns-clause-no_row g c = λ empty.
     let front = front_is _ _ c.in-Some.ensures.item.3 in
     absurd (no_front _ c.in-Some.request.now front.0 front.1 empty)
+
+pub returns-in_default-clause-does : goal.returns-in_default-clause-does
+returns-in_default-clause-does g c = λ link apart free going. turn_none _ _ refl (inl free)
+
+pub returns-in-Logout-clause-does : goal.returns-in-Logout-clause-does
+returns-in-Logout-clause-does g c = λ link apart free going.
+    let front = front_is _ _ c.in-Some.ensures.item.3 in
+    let asked : c.in-Some.request.now.order ≡ orders.Logout = search rules in
+    turn_from _ _ _ (doing_same c.args.unit.now (g.S.Site.state c.args.site.now) (g.S.Site.state c.args.site.now) c.args.records.now c.make_room.new.self refl refl refl refl refl refl c.make_room.ensures.lists.history c.make_room.ensures.lists.grants)
+    (turn_one _ _
+    (does_log_out _ _ (logs_out_first c.args.unit.now c.log_out.new.unit (g.S.Site.state c.args.site.now) c.make_room.new.self c.log_out.new.records c.in-Some.request.now front.0 front.1 asked free.stage
+    (id_stands _ _ c.log_out.ensures.stands) (c.log_out.ensures.out (g.S.Site.state c.args.site.now).queue c.session.ensures) c.log_out.ensures.history))
+    (rests_free c.log_out.new.unit (g.S.Site.state c.args.site.now) c.log_out.new.records (waiting_stands _ _ c.log_out.ensures.stands ∙ free.waiting) c.log_out.ensures.stage
+    (ap (λ (line : Line). line.kept) c.log_out.ensures.line ∙ c.requires.none)))
+
+pub returns-clause-does : goal.returns-clause-does
+returns-clause-does g c = λ link apart free going.
+    let unit = c.args.unit.now in
+    let front = front_is _ _ c.in-Some.ensures.item.3 in
+    let found = c.in-Some.request.now in
+    let old = (g.S.Site.state c.args.site.now) in
+    let mid = (g.S.Site.state c.prepare.new.site) in
+    let has = c.in_ok-prepare.ensures.made (subst (λ (stage : Stage). HasAnswerAt (login_state unit.logins) found stage unit.service.answer.items) (sym free.stage) tt) in
+    let made = made_alone old mid (login_state unit.logins) found c.prepare.new.service.stage c.prepare.new.service.answer.items apart (c.in_ok-prepare.ensures.went (λ is. search rules)) has in
+    on_ok c.answer.result _ _
+    (turn_then _ _ _ (does_prepare _ _ (prepares unit c.note_stage.new.unit c.prepare.new.service old mid c.args.records.now c.prepare.new.records found front.0 made.0 c.note_stage.ensures.service
+    free.stage front.1 (λ is. search rules) c.note_stage.ensures.id c.note_stage.ensures.logins c.note_stage.ensures.line c.note_stage.ensures.pending c.prepare.ensures.queue c.prepare.ensures.advances
+    apart c.prepare.ensures.grants made.1 (c.in_ok-prepare.ensures.suits (subst (SuitsStage unit.logins.current found.order) (sym free.stage) tt)) has
+    (c.in_ok-prepare.ensures.rows (ap row_in free.stage)) (c.in_ok-prepare.ensures.bears old.client (known_same old.client) apart free.stage))))
+    (c.answer.ensures.does found front.0 made.0 (ap (λ (s : Service). s.stage) c.note_stage.ensures.service ∙ made.1) (c.note_stage.ensures.pending ∙ front.1) link
+    (c.prepare.ensures.advances.shared ∙ apart) (waiting_stands _ _ c.note_stage.ensures.stands ∙ free.waiting)
+    (ap is_ended c.note_stage.ensures.line ∙ pending_on (is_ended unit.line) _ front.0 found front.1 going))

@@ -1,4 +1,4 @@
-use Rattle.std.proofs.Common.{ap, le_refl, refl}
+use Rattle.std.proofs.Common.{ap, le_refl, refl, true}
 use Rattle.block_server.proofs.Agreeing.{is_waiting}
 use Rattle.block_server.proofs.GoingOn.{begun_ended}
 use Rattle.block_server.proofs.Onces.{once_same}
@@ -13,6 +13,8 @@ use Rattle.std.proofs.Common.{inr}
 use Rattle.std.proofs.Common.{◌∙◌, sym, true≢false}
 use Rattle.block_server.specs.Talk.{reach_of}
 use Rattle.block_server.proofs.FirstTurns.{begins_alone, stays_alone}
+use Rattle.block_server.proofs.Asides.{aside_none, aside_on}
+use Rattle.block_server.specs.Doings.{doing}
 use Rattle.block_server.proofs.turning.begin.Goals as goal
 
 pub returns-in-Some-clause-once : goal.returns-in-Some-clause-once
@@ -89,3 +91,15 @@ returns-in_default-clause-alone g c = λ alone off.
       logins = refl;
       pending = refl;
     })
+
+pub returns-in-Some-clause-aside : goal.returns-in-Some-clause-aside
+returns-in-Some-clause-aside g c = λ records alone kept.
+    let unit = c.args.unit.now in
+    let site = g.S.Site.state c.args.site.now in
+    let line = record unit.line { handshake = c.registered.new.self } in
+    aside_on (doing unit site records) (doing (record unit { line = line; moved = true }) site records) _ (aside_none unit line true site records refl) (c.put_reply-next.ensures.aside records alone kept)
+
+pub returns-in_default-clause-aside : goal.returns-in_default-clause-aside
+returns-in_default-clause-aside g c = λ records alone kept.
+    let unit = c.args.unit.now in
+    aside_none unit (record unit.line { handshake = c.registered.new.self }) true (g.S.Site.state c.args.site.now) records refl

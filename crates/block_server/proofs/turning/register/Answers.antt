@@ -16,6 +16,8 @@ use Rattle.block_server.proofs.ComingParts.{comes_none, less_later, register_sti
 use Rattle.block_server.specs.Steps.{NoStage}
 use Rattle.block_server.specs.Talk.{reach_of}
 use Rattle.block_server.proofs.FirstTurns.{opens_not, opens_unit}
+use Rattle.block_server.proofs.Asides.{aside_on, aside_opened, aside_still}
+use Rattle.block_server.specs.Doings.{doing}
 use Rattle.block_server.proofs.turning.register.Goals as goal
 
 pub returns-in_default-clause-once : goal.returns-in_default-clause-once
@@ -150,3 +152,25 @@ pub returns-in_default-clause-opens : goal.returns-in_default-clause-opens
 returns-in_default-clause-opens g c = λ is.
     absurd (opens_not _ _ _ c.register.result (λ answer. c.in_default.not-Success answer) (λ control answer. c.in_default.not-Closed control answer)
     c.register.ensures.busy c.register.ensures.stands is.unregistered is.event)
+
+pub returns-in_default-clause-aside : goal.returns-in_default-clause-aside
+returns-in_default-clause-aside g c = λ records alone kept.
+    let session = register_session _ _ _ c.register.result (λ is. c.in_default.not-Success is) (λ control is. c.in_default.not-Closed control is) c.register.ensures.busy c.register.ensures.refused in
+    aside_still c.args.unit.now c.args.unit.now.line c.args.unit.now.moved (g.S.Site.state c.args.site.now) (g.S.Site.state c.register.new.self) records refl c.register.ensures.windows c.register.ensures.advances
+    session c.register.ensures.rest.taken c.register.ensures.plain c.register.ensures.logins
+
+pub returns-in-Success-clause-aside : goal.returns-in-Success-clause-aside
+returns-in-Success-clause-aside g c = λ records alone kept.
+    let unit = c.args.unit.now in
+    aside_on _ (doing unit (g.S.Site.state c.register.new.self) records) _
+    (aside_opened unit unit.line unit.moved (g.S.Site.state c.args.site.now) (g.S.Site.state c.register.new.self) records refl c.register.ensures.windows c.register.ensures.advances
+    (c.in-Success.ensures.opened.none_taken) (c.in-Success.ensures.opened.none_received alone) c.register.ensures.plain c.register.ensures.logins)
+    (c.begin.ensures.aside records alone kept)
+
+pub returns-in-Closed-clause-aside : goal.returns-in-Closed-clause-aside
+returns-in-Closed-clause-aside g c = λ records alone kept.
+    let unit = c.args.unit.now in
+    aside_on _ (doing unit (g.S.Site.state c.register.new.self) records) _
+    (aside_opened unit unit.line unit.moved (g.S.Site.state c.args.site.now) (g.S.Site.state c.register.new.self) records refl c.register.ensures.windows c.register.ensures.advances
+    (c.in-Closed.ensures.opened.none_taken) (c.in-Closed.ensures.opened.none_received alone) c.register.ensures.plain c.register.ensures.logins)
+    (c.begin-in-Closed.ensures.aside records alone kept)

@@ -13,6 +13,7 @@ use Rattle.block_server.proofs.RangeLaws.{lays_same}
 use Rattle.block_server.proofs.Standing.{stands_one}
 use Rattle.block_server.proofs.Bearing.{bears_same}
 use Rattle.block_server.proofs.BearingParts.{unit_bears}
+use Rattle.block_server.proofs.DataFetches.{on_err_map}
 use Rattle.block_server.proofs.ports.PortsSite.deliver_unit.Goals as goal
 
 pub returns-in-Ok-clause-advances : goal.returns-in-Ok-clause-advances
@@ -68,3 +69,10 @@ returns-in-Ok-clause-bears g c =
 
 pub returns-in-Err-clause-bears : goal.returns-in-Err-clause-bears
 returns-in-Err-clause-bears g c = bears_same _ _ _ (ap (seen_in g.R.WindowPort.is_shared) c.write_own.ensures.client)
+
+pub returns-in-Ok-clause-missed : goal.returns-in-Ok-clause-missed
+returns-in-Ok-clause-missed g c =
+    on_err_map c.copy_out.result _ _ (λ same. same ∙ ap (seen_in g.R.WindowPort.is_shared) c.write_own.ensures.client) c.copy_out.ensures.missed
+
+pub returns-in-Err-clause-missed : goal.returns-in-Err-clause-missed
+returns-in-Err-clause-missed g c = ap (seen_in g.R.WindowPort.is_shared) c.write_own.ensures.client

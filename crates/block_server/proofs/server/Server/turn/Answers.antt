@@ -7,13 +7,13 @@ use Rattle.block_server.specs.Advances.{PutsNow}
 use Rattle.block_server.specs.Causes.{anything}
 use Rattle.tce_window.specs.PortState.{PortState}
 use Rattle.block_server.specs.Ready.{Agrees, AgreesAt, NothingReady}
-use Rattle.block_server.specs.Serving.{held, terms_of}
+use Rattle.block_server.specs.Serving.{Terms, held, terms_of}
 use Rattle.block_server.specs.SiteState.{Lenders}
 use Rattle.block_server.specs.Units.{AnswersItsRows, AreServing, ServesItsRows, grant_of, granted_by}
 use Rattle.block_server.proofs.Denying.{tells_turn}
 use Rattle.block_server.proofs.Agreeing.{agrees_turn, some_at, waits_turn}
 use Rattle.block_server.proofs.Readying.{idle_ready, if_ready}
-use Rattle.block_server.proofs.Units.{get_set_other, granting_on, keeps_disk, tells_prop, units_on, way_quiet}
+use Rattle.block_server.proofs.Units.{get_set_other, granting_on, keeps_disk, same_prop, tells_prop, units_on, way_quiet}
 use Rattle.block_server.proofs.Taking.{intake_turn}
 use Rattle.block_server.specs.Receipts.{LinesMore}
 use Rattle.block_server.proofs.Jointly.{judged_turn}
@@ -32,364 +32,351 @@ use Rattle.block_server.specs.Turns.{IsStill, way_of}
 use Rattle.block_server.proofs.ComingTurns.{Differs, differs_by, way_moved}
 use Rattle.std.specs.Prelude.{OnOk}
 use Rattle.block_server.specs.Talk.{UnitTalksOn, reach}
-use Rattle.block_server.proofs.Talks.{unit_talks}
+use Rattle.block_server.proofs.Talks.{calm_from, talks_from, unit_talks}
 use Rattle.block_server.specs.Ranges.{WritesOn, seen_in}
-use Rattle.block_server.proofs.TurnRanges.{unit_leaves, unit_writes}
+use Rattle.block_server.proofs.TurnRanges.{leaves_from, unit_leaves, unit_writes, writes_from}
 use Rattle.block_server.specs.Standing.{LeavesOn, stood}
 use Rattle.block_server.specs.Talk.{UnitOpensOn}
-use Rattle.block_server.proofs.FirstTurns.{unit_opens}
-use Rattle.block_server.proofs.TurnRows.{unit_rows}
+use Rattle.block_server.proofs.FirstTurns.{new_unmoved, opens_unmoved, unit_opens}
+use Rattle.block_server.proofs.TurnRows.{rows_from, unit_rows}
+use Rattle.block_server.specs.Resting.{IsResting}
+use Rattle.block_server.proofs.Asides.{unit_does}
+use Rattle.block_server.proofs.ComingParts.{comes_apart}
+use Rattle.block_server.proofs.Quieting.{on_ok}
+use Rattle.block_server.proofs.Telling.{told_moved, told_on, told_quiet, told_rests}
+use Rattle.block_server.specs.Doings.{UnitDoes}
 use Rattle.block_server.proofs.server.Server.turn.Goals as goal
 
 pub returns-clause-answers : goal.returns-clause-answers
 returns-clause-answers g c =
     let server = c.args.self.now in
-    let there : slice_get server.units.items c.args.unit ≡ Some c.index_mut.result.now =
-    slice_get_read server.units.items _ c.args.unit _ server.units.ok.0 c.requires.unit c.index_mut.ensures.value in
-    let reached = ap (λ (lent : Lenders). lent.queue) c.turn.ensures.advances.reached in
-    subst (λ (queue : EndState). ∥ AnswersItsRows (g.O.WindowPort.state c.args.own.now).place.unit (g.C.CrqEnd.state c.args.crq.now) queue server.records c.turn.new.records ∥₁)
+    let there : slice_get server.units.items c.args.unit ≡ Some c.index_mut-turned.result.now =
+    slice_get_read server.units.items _ c.args.unit _ server.units.ok.0 c.requires.unit c.index_mut-turned.ensures.value in
+    let reached = ap (λ (lent : Lenders). lent.queue) c.turn-done.ensures.advances.reached in
+    subst (λ (queue : EndState). ∥ AnswersItsRows (g.O.WindowPort.state c.args.own.now).place.unit (g.C.CrqEnd.state c.args.crq.now) queue server.records c.turn-done.new.records ∥₁)
     (sym (ap g.C.CrqEnd.state (c.crq-1.given.1 (sym reached))))
     (∥∥₁_map server.serving (λ (all : AreServing (terms_of anything server.disk.count) server.partition server.units.items server.records.history.items).
-    let is = all c.args.unit c.index_mut.result.now there in
-    subst (λ (id : UnitId). AnswersItsRows id (g.C.CrqEnd.state c.args.crq.now) (g.C.CrqEnd.state c.turn.new.site.queue.now) server.records c.turn.new.records)
-    (is.id ∙ sym c.requires.named) (c.turn.ensures.once anything (λ news is. refl) is.serving).answers))
+    let is = all c.args.unit c.index_mut-turned.result.now there in
+    subst (λ (id : UnitId). AnswersItsRows id (g.C.CrqEnd.state c.args.crq.now) (g.C.CrqEnd.state c.turn-done.new.site.queue.now) server.records c.turn-done.new.records)
+    (is.id ∙ sym c.requires.named) (c.turn-done.ensures.once anything (λ news is. refl) is.serving).answers))
+
+pub returns-clause-rests : goal.returns-clause-rests
+returns-clause-rests g c = λ alone rests.
+    let server = c.args.self.now in
+    let there : slice_get server.units.items c.args.unit ≡ Some c.index_mut-turned.result.now =
+    slice_get_read server.units.items _ c.args.unit _ server.units.ok.0 c.requires.unit c.index_mut-turned.ensures.value in
+    let is = some_at (slice_get server.units.items c.args.unit) c.index_mut-turned.result.now (λ (u : ServerUnit). IsResting u (g.C.CrqEnd.state c.args.crq.now)) there rests in
+    told_rests c.turn-done.result c.turn-done.new.unit.moved c.told.result c.told.ensures
+    (c.turn-done.ensures.rests alone (record {
+      nothing = record { waiting = is.nothing.waiting; pending = is.nothing.pending; kept = is.nothing.kept; going = is.nothing.going };
+      event = is.event;
+      emptied = is.emptied;
+    }))
 
 pub returns-clause-others : goal.returns-clause-others
 returns-clause-others g c =
     let server = c.args.self.now in
-    let there : slice_get server.units.items c.args.unit ≡ Some c.index_mut.result.now =
-    slice_get_read server.units.items _ c.args.unit _ server.units.ok.0 c.requires.unit c.index_mut.ensures.value in
+    let there : slice_get server.units.items c.args.unit ≡ Some c.index_mut-turned.result.now =
+    slice_get_read server.units.items _ c.args.unit _ server.units.ok.0 c.requires.unit c.index_mut-turned.ensures.value in
     ∥∥₁_map server.serving (λ (all : AreServing (terms_of anything server.disk.count) server.partition server.units.items server.records.history.items).
-    let is = all c.args.unit c.index_mut.result.now there in
-    subst (λ (id : UnitId). ServesItsRows id server.records c.turn.new.records) (is.id ∙ sym c.requires.named) (c.turn.ensures.once anything (λ news is. refl) is.serving).others)
+    let is = all c.args.unit c.index_mut-turned.result.now there in
+    subst (λ (id : UnitId). ServesItsRows id server.records c.turn-done.new.records) (is.id ∙ sym c.requires.named) (c.turn-done.ensures.once anything (λ news is. refl) is.serving).others)
 
 pub returns-clause-disk : goal.returns-clause-disk
 returns-clause-disk g c =
     let server = c.args.self.now in
-    let there : slice_get server.units.items c.args.unit ≡ Some c.index_mut.result.now =
-    slice_get_read server.units.items _ c.args.unit _ server.units.ok.0 c.requires.unit c.index_mut.ensures.value in
+    let there : slice_get server.units.items c.args.unit ≡ Some c.index_mut-turned.result.now =
+    slice_get_read server.units.items _ c.args.unit _ server.units.ok.0 c.requires.unit c.index_mut-turned.ensures.value in
     ∥∥₁_map server.serving (λ (all : AreServing (terms_of anything server.disk.count) server.partition server.units.items server.records.history.items).
-    keeps_disk (held anything server.disk.count (g.B.Blocks.state server.disk.image).blocks) (held anything c.turn.new.disk.count (g.B.Blocks.state c.turn.new.disk.image).blocks) _ _
+    keeps_disk (held anything server.disk.count (g.B.Blocks.state server.disk.image).blocks) (held anything c.turn-done.new.disk.count (g.B.Blocks.state c.turn-done.new.disk.image).blocks) _ _
     (g.B.Blocks.state server.disk.image).size server.disk.sized
-    (c.turn.ensures.once anything (λ news is. refl) (all c.args.unit c.index_mut.result.now there).serving).terms
+    (c.turn-done.ensures.once anything (λ news is. refl) (all c.args.unit c.index_mut-turned.result.now there).serving).terms
     (g.met.B.Blocks.told server.disk.image)
-    (c.turn.ensures.once anything (λ news is. refl) (all c.args.unit c.index_mut.result.now there).serving).stays)
+    (c.turn-done.ensures.once anything (λ news is. refl) (all c.args.unit c.index_mut-turned.result.now there).serving).stays)
 
-pub returns-clause-causes : goal.returns-clause-causes
-returns-clause-causes g c = λ told tells all.
+pub returns-clause-by_told : goal.returns-clause-by_told
+returns-clause-by_told g c = λ told tells all.
     let server = c.args.self.now in
-    let there : slice_get server.units.items c.args.unit ≡ Some c.index_mut.result.now =
-    slice_get_read server.units.items _ c.args.unit _ server.units.ok.0 c.requires.unit c.index_mut.ensures.value in
-    let is = all c.args.unit c.index_mut.result.now there in
-    let reached = ap (λ (lent : Lenders). lent.client) c.turn.ensures.advances.reached in
-    let heard = tells_turn told _ _ _ _ _ _ _ _ _ _ (sym (is.id ∙ sym c.requires.named)) (sym (ap g.O.WindowPort.state (c.own-1.given.1 (sym (ap (λ (lent : Lenders). lent.own) c.turn.ensures.advances.reached)))))
-    (sym (ap g.R.WindowPort.state (c.client-1.given.1 (sym reached)))) tells in
-    let once = c.turn.ensures.once told heard is.serving in
-    keeps_disk (held told server.disk.count (g.B.Blocks.state server.disk.image).blocks) (held told c.turn.new.disk.count (g.B.Blocks.state c.turn.new.disk.image).blocks) _ _
-    (g.B.Blocks.state server.disk.image).size server.disk.sized once.terms (g.met.B.Blocks.told server.disk.image) once.stays
-
-pub returns-clause-written : goal.returns-clause-written
-returns-clause-written g c = λ told tells all.
-    let server = c.args.self.now in
-    let there : slice_get server.units.items c.args.unit ≡ Some c.index_mut.result.now =
-    slice_get_read server.units.items _ c.args.unit _ server.units.ok.0 c.requires.unit c.index_mut.ensures.value in
-    let is = all c.args.unit c.index_mut.result.now there in
-    let reached = ap (λ (lent : Lenders). lent.client) c.turn.ensures.advances.reached in
-    let heard = tells_turn told _ _ _ _ _ _ _ _ _ _ (sym (is.id ∙ sym c.requires.named)) (sym (ap g.O.WindowPort.state (c.own-1.given.1 (sym (ap (λ (lent : Lenders). lent.own) c.turn.ensures.advances.reached)))))
-    (sym (ap g.R.WindowPort.state (c.client-1.given.1 (sym reached)))) tells in
-    (c.turn.ensures.once told heard is.serving).written
-
-pub returns-clause-order : goal.returns-clause-order
-returns-clause-order g c = λ told tells all.
-    let server = c.args.self.now in
-    let there : slice_get server.units.items c.args.unit ≡ Some c.index_mut.result.now =
-    slice_get_read server.units.items _ c.args.unit _ server.units.ok.0 c.requires.unit c.index_mut.ensures.value in
-    let is = all c.args.unit c.index_mut.result.now there in
-    let reached = ap (λ (lent : Lenders). lent.client) c.turn.ensures.advances.reached in
-    let heard = tells_turn told _ _ _ _ _ _ _ _ _ _ (sym (is.id ∙ sym c.requires.named)) (sym (ap g.O.WindowPort.state (c.own-1.given.1 (sym (ap (λ (lent : Lenders). lent.own) c.turn.ensures.advances.reached)))))
-    (sym (ap g.R.WindowPort.state (c.client-1.given.1 (sym reached)))) tells in
-    units_on (held told server.disk.count (g.B.Blocks.state server.disk.image).blocks) (held told c.turn.new.disk.count (g.B.Blocks.state c.turn.new.disk.image).blocks)
-    server.partition c.args.unit server.units.items c.index_mut.result.now c.turn.new.unit _ _ _ _ there (c.turn.ensures.once told heard is.serving) all
+    let there : slice_get server.units.items c.args.unit ≡ Some c.index_mut-turned.result.now =
+    slice_get_read server.units.items _ c.args.unit _ server.units.ok.0 c.requires.unit c.index_mut-turned.ensures.value in
+    let is = all c.args.unit c.index_mut-turned.result.now there in
+    let id : c.index_mut-turned.result.now.id ≡ (g.O.WindowPort.state c.args.own.now).place.unit = is.id ∙ sym c.requires.named in
+    let lent = c.turn-done.ensures.advances.reached in
+    let queue = sym (ap g.C.CrqEnd.state (c.crq-1.given.1 (sym (ap (λ (lent : Lenders). lent.queue) lent)))) in
+    let client = sym (ap g.R.WindowPort.state (c.client-1.given.1 (sym (ap (λ (lent : Lenders). lent.client) lent)))) in
+    let own = sym (ap g.O.WindowPort.state (c.own-1.given.1 (sym (ap (λ (lent : Lenders). lent.own) lent)))) in
+    let heard = tells_turn told _ _ _ _ _ _ _ _ _ _ (sym id) own client tells in
+    let once = c.turn-done.ensures.once told heard is.serving in
+    let unit = (g.O.WindowPort.state c.args.own.now).place.unit in
+    let old = g.C.CrqEnd.state c.args.crq.now in
+    record {
+      causes =
+          keeps_disk (held told server.disk.count (g.B.Blocks.state server.disk.image).blocks) (held told c.turn-done.new.disk.count (g.B.Blocks.state c.turn-done.new.disk.image).blocks) _ _
+          (g.B.Blocks.state server.disk.image).size server.disk.sized once.terms (g.met.B.Blocks.told server.disk.image) once.stays;
+      order =
+          units_on (held told server.disk.count (g.B.Blocks.state server.disk.image).blocks) (held told c.turn-done.new.disk.count (g.B.Blocks.state c.turn-done.new.disk.image).blocks)
+          server.partition c.args.unit server.units.items c.index_mut-turned.result.now c.turn-done.new.unit _ _ _ _ there once all;
+      written = once.written;
+      runs = λ has.
+          subst (λ (port : PortState). HasRuns told (slice_set server.units.items c.args.unit c.turn-done.new.unit) c.args.unit port c.turn-done.new.site.copies.now.items c.turn-done.new.records) own
+          (runs_turn told server.units.items c.args.unit c.index_mut-turned.result.now c.turn-done.new.unit _ _ _ _ server.records c.turn-done.new.records there
+          (c.turn-done.ensures.cargo told true heard is.serving) has);
+      explains = λ since has.
+          let ledger = ledger_at c.index_mut-turned.result.now old.last_session old.taken (login_answers old.sent) server.records in
+          let front : Front = record { since = since; lines = server.records.grants.items; answers = login_answers old.sent; asked = None; closed = λ session. true } in
+          let step : AreExplained told c.index_mut-turned.result.now.id since (basis_seen c.index_mut-turned.result.now old server.records.grants.items)
+          → AreExplained told c.index_mut-turned.result.now.id since (basis_seen c.turn-done.new.unit (g.C.CrqEnd.state c.turn-done.new.site.queue.now) c.turn-done.new.records.grants.items) =
+          λ known. (c.turn-done.ensures.refuses told heard is.serving front (λ session low none. absurd (cc (none)))
+          (accounted_first told c.index_mut-turned.result.now.id front ledger known refl refl (λ earlier none. absurd (cc (none))) (λ earlier none. absurd (cc (none))) (λ earlier none. absurd (cc (none))))).known in
+          subst (λ (q : EndState). HasExplained told (slice_set server.units.items c.args.unit c.turn-done.new.unit) c.args.unit unit q since c.turn-done.new.records.grants.items) queue
+          (refuses_turn told server.units.items c.args.unit c.index_mut-turned.result.now c.turn-done.new.unit unit old (g.C.CrqEnd.state c.turn-done.new.site.queue.now) since _ _ there
+          (subst (λ (id : UnitId). AreExplained told id since (basis_seen c.index_mut-turned.result.now old server.records.grants.items)
+          → AreExplained told id since (basis_seen c.turn-done.new.unit (g.C.CrqEnd.state c.turn-done.new.site.queue.now) c.turn-done.new.records.grants.items)) id step) has);
+      logins = λ since has earlier order on closed knows dealt.
+          let known = subst (λ (id : UnitId). AreExplained told id since (basis_seen c.index_mut-turned.result.now old server.records.grants.items)) (sym id)
+          (some_at (slice_get server.units.items c.args.unit) c.index_mut-turned.result.now (λ (u : ServerUnit). AreExplained told unit since (basis_seen u old server.records.grants.items)) there has) in
+          let units' = slice_set server.units.items c.args.unit c.turn-done.new.unit in
+          subst (λ (q : EndState). AnswersInOrder told earlier closed units' c.args.unit unit old q server.records c.turn-done.new.records) queue
+          (subst (λ (id : UnitId). AnswersInOrder told earlier closed units' c.args.unit id old (g.C.CrqEnd.state c.turn-done.new.site.queue.now) server.records c.turn-done.new.records) id
+          (in_order_turn told server.units.items c.args.unit c.index_mut-turned.result.now c.turn-done.new.unit c.index_mut-turned.result.now.id old (g.C.CrqEnd.state c.turn-done.new.site.queue.now) since earlier closed server.records c.turn-done.new.records
+          there known (λ front same. c.turn-done.ensures.refuses told heard is.serving front (λ session low none.
+          let known = subst (λ (q : EndState). KnowsSends (AgreesAt server.units.items c.args.unit old) g.C.CrqEnd.is_shared old q closed) (sym queue) knows session low
+          (sym (ap (λ (f : ℕ → Bool). f session) same) ∙ none) in
+          (some_at (slice_get server.units.items c.args.unit) c.index_mut-turned.result.now (λ (u : ServerUnit). Agrees u.line.handshake old) there known.0, known.1))) refl c.turn-done.ensures.intake.id order
+          (subst (λ (id : UnitId). LinesTellLogin server.units.items c.args.unit id old server.records.grants.items) (sym id) on)
+          (subst (λ (id : UnitId). HasDealt told earlier closed server.units.items c.args.unit id old) (sym id) dealt)));
+      writes = λ words u at calm.
+          subst (λ (z : UnitId × PortState). OnOk c.told.result (WritesOn (told_to told z.0) u (g.C.CrqEnd.state c.args.crq.now) words
+          (seen_in g.R.WindowPort.is_shared (g.R.WindowPort.state c.args.client.now)) (seen_in g.R.WindowPort.is_shared z.1)))
+          (λ i. (id i, client i))
+          (unit_writes (told_to told c.index_mut-turned.result.now.id) _ server.units.items c.args.unit u c.index_mut-turned.result.now
+          (reach (g.C.CrqEnd.state c.args.crq.now) (g.R.WindowPort.state c.args.client.now) g.R.WindowPort.is_shared) words _
+          (seen_in g.R.WindowPort.is_shared (g.R.WindowPort.state c.turn-done.new.site.client.now)) c.told.result there at
+          (λ calm. told_on c.turn-done.result c.turn-done.new.unit.moved c.told.result c.told.ensures _ _ (writes_from (told_to told c.index_mut-turned.result.now.id) c.index_mut-turned.result.now (record c.index_mut-turned.result.now { moved = false }) _ words _ _ refl)
+          (c.turn-done.ensures.writes told heard is.serving words (calm_from c.index_mut-turned.result.now (record c.index_mut-turned.result.now { moved = false }) (reach (g.C.CrqEnd.state c.args.crq.now) (g.R.WindowPort.state c.args.client.now) g.R.WindowPort.is_shared) _ words refl refl refl refl calm))) calm);
+    }
 
 pub returns-clause-tells : goal.returns-clause-tells
 returns-clause-tells g c =
     let server = c.args.self.now in
-    let there : slice_get server.units.items c.args.unit ≡ Some c.index_mut.result.now =
-    slice_get_read server.units.items _ c.args.unit _ server.units.ok.0 c.requires.unit c.index_mut.ensures.value in
-    ∥∥₁_elim server.serving (tells_prop (g.B.Blocks.state server.disk.image).blocks (g.B.Blocks.state c.turn.new.disk.image).blocks)
+    let there : slice_get server.units.items c.args.unit ≡ Some c.index_mut-turned.result.now =
+    slice_get_read server.units.items _ c.args.unit _ server.units.ok.0 c.requires.unit c.index_mut-turned.ensures.value in
+    ∥∥₁_elim server.serving (tells_prop (g.B.Blocks.state server.disk.image).blocks (g.B.Blocks.state c.turn-done.new.disk.image).blocks)
     (λ (all : AreServing (terms_of anything server.disk.count) server.partition server.units.items server.records.history.items).
-    (c.turn.ensures.once anything (λ news is. refl) (all c.args.unit c.index_mut.result.now there).serving).tells)
+    (c.turn-done.ensures.once anything (λ news is. refl) (all c.args.unit c.index_mut-turned.result.now there).serving).tells)
+
+pub returns-clause-count : goal.returns-clause-count
+returns-clause-count g c =
+    let server = c.args.self.now in
+    let there : slice_get server.units.items c.args.unit ≡ Some c.index_mut-turned.result.now =
+    slice_get_read server.units.items _ c.args.unit _ server.units.ok.0 c.requires.unit c.index_mut-turned.ensures.value in
+    ∥∥₁_elim server.serving (same_prop c.turn-done.new.disk.count server.disk.count)
+    (λ (all : AreServing (terms_of anything server.disk.count) server.partition server.units.items server.records.history.items).
+    ap (λ (terms : Terms). terms.size) (c.turn-done.ensures.once anything (λ news is. refl) (all c.args.unit c.index_mut-turned.result.now there).serving).terms)
 
 pub returns-clause-way : goal.returns-clause-way
 returns-clause-way g c =
     let server = c.args.self.now in
-    let there : slice_get server.units.items c.args.unit ≡ Some c.index_mut.result.now =
-    slice_get_read server.units.items _ c.args.unit _ server.units.ok.0 c.requires.unit c.index_mut.ensures.value in
-    way_quiet c.turn.result server.units.items c.args.unit c.index_mut.result.now c.turn.new.unit _ _ there c.turn.ensures.quiet
+    let there : slice_get server.units.items c.args.unit ≡ Some c.index_mut-turned.result.now =
+    slice_get_read server.units.items _ c.args.unit _ server.units.ok.0 c.requires.unit c.index_mut-turned.ensures.value in
+    way_quiet c.told.result server.units.items c.args.unit c.index_mut-turned.result.now c.turn-done.new.unit _ _ there
+    (told_quiet c.turn-done.result c.turn-done.new.unit.moved c.told.result c.told.ensures _
+    (on_ok c.turn-done.result _ _ (λ quiet moved. let is = quiet moved in record { still = is.still; same = is.same }) c.turn-done.ensures.quiet))
 
 pub invariant_of-self : goal.invariant_of-self
 invariant_of-self g c =
     let server = c.args.self.now in
-    let there : slice_get server.units.items c.args.unit ≡ Some c.index_mut.result.now =
-    slice_get_read server.units.items _ c.args.unit _ server.units.ok.0 c.requires.unit c.index_mut.ensures.value in
+    let there : slice_get server.units.items c.args.unit ≡ Some c.index_mut-turned.result.now =
+    slice_get_read server.units.items _ c.args.unit _ server.units.ok.0 c.requires.unit c.index_mut-turned.ensures.value in
     record {
       serving = ∥∥₁_map server.serving (λ (all : AreServing (terms_of anything server.disk.count) server.partition server.units.items server.records.history.items).
-          units_on (held anything server.disk.count (g.B.Blocks.state server.disk.image).blocks) (held anything c.turn.new.disk.count (g.B.Blocks.state c.turn.new.disk.image).blocks)
-          server.partition c.args.unit server.units.items c.index_mut.result.now c.turn.new.unit _ _ _ _ there
-          (c.turn.ensures.once anything (λ news is. refl) (all c.args.unit c.index_mut.result.now there).serving) all);
+          units_on (held anything server.disk.count (g.B.Blocks.state server.disk.image).blocks) (held anything c.turn-done.new.disk.count (g.B.Blocks.state c.turn-done.new.disk.image).blocks)
+          server.partition c.args.unit server.units.items c.index_mut-turned.result.now c.turn-done.new.unit _ _ _ _ there
+          (c.turn-done.ensures.once anything (λ news is. refl) (all c.args.unit c.index_mut-turned.result.now there).serving) all);
     }
 
 pub returns-clause-others_stay : goal.returns-clause-others_stay
-returns-clause-others_stay g c = λ k apart. get_set_other c.args.self.now.units.items c.args.unit k c.turn.new.unit apart
+returns-clause-others_stay g c = λ k apart. get_set_other c.args.self.now.units.items c.args.unit k c.turn-done.new.unit apart
 
 pub returns-clause-agrees : goal.returns-clause-agrees
 returns-clause-agrees g c =
     let server = c.args.self.now in
-    let there : slice_get server.units.items c.args.unit ≡ Some c.index_mut.result.now =
-    slice_get_read server.units.items _ c.args.unit _ server.units.ok.0 c.requires.unit c.index_mut.ensures.value in
-    let reached = ap (λ (lent : Lenders). lent.queue) c.turn.ensures.advances.reached in
-    subst (λ (queue : EndState). AgreesAt server.units.items c.args.unit (g.C.CrqEnd.state c.args.crq.now) → AgreesAt (slice_set server.units.items c.args.unit c.turn.new.unit) c.args.unit queue)
+    let there : slice_get server.units.items c.args.unit ≡ Some c.index_mut-turned.result.now =
+    slice_get_read server.units.items _ c.args.unit _ server.units.ok.0 c.requires.unit c.index_mut-turned.ensures.value in
+    let reached = ap (λ (lent : Lenders). lent.queue) c.turn-done.ensures.advances.reached in
+    subst (λ (queue : EndState). AgreesAt server.units.items c.args.unit (g.C.CrqEnd.state c.args.crq.now) → AgreesAt (slice_set server.units.items c.args.unit c.turn-done.new.unit) c.args.unit queue)
     (sym (ap g.C.CrqEnd.state (c.crq-1.given.1 (sym reached))))
-    (agrees_turn server.units.items c.args.unit c.index_mut.result.now c.turn.new.unit (g.C.CrqEnd.state c.args.crq.now) (g.C.CrqEnd.state c.turn.new.site.queue.now) there c.turn.ensures.agrees)
+    (agrees_turn server.units.items c.args.unit c.index_mut-turned.result.now c.turn-done.new.unit (g.C.CrqEnd.state c.args.crq.now) (g.C.CrqEnd.state c.turn-done.new.site.queue.now) there c.turn-done.ensures.agrees)
 
 pub returns-clause-waits : goal.returns-clause-waits
 returns-clause-waits g c =
     let server = c.args.self.now in
-    let there : slice_get server.units.items c.args.unit ≡ Some c.index_mut.result.now =
-    slice_get_read server.units.items _ c.args.unit _ server.units.ok.0 c.requires.unit c.index_mut.ensures.value in
-    let lent = c.turn.ensures.advances.reached in
+    let there : slice_get server.units.items c.args.unit ≡ Some c.index_mut-turned.result.now =
+    slice_get_read server.units.items _ c.args.unit _ server.units.ok.0 c.requires.unit c.index_mut-turned.ensures.value in
+    let lent = c.turn-done.ensures.advances.reached in
     let queue = sym (ap g.C.CrqEnd.state (c.crq-1.given.1 (sym (ap (λ (lent : Lenders). lent.queue) lent)))) in
     let own = sym (ap g.O.WindowPort.state (c.own-1.given.1 (sym (ap (λ (lent : Lenders). lent.own) lent)))) in
     let client = sym (ap g.R.WindowPort.state (c.client-1.given.1 (sym (ap (λ (lent : Lenders). lent.client) lent)))) in
-    waits_turn c.turn.result server.units.items c.args.unit c.index_mut.result.now c.turn.new.unit (g.C.CrqEnd.state c.args.crq.now) _ there
-    (if_ready c.turn.result _ _ _ (λ agreed idle.
+    waits_turn c.told.result server.units.items c.args.unit c.index_mut-turned.result.now c.turn-done.new.unit (g.C.CrqEnd.state c.args.crq.now) _ there
+    (if_ready c.told.result _ _ _ (λ agreed idle.
     subst (λ (z : EndState × PortState × PortState). NothingReady g.C.CrqEnd.is_shared g.R.WindowPort.is_shared (g.C.CrqEnd.state c.args.crq.now) z.0
-    (g.O.WindowPort.state c.args.own.now) z.1 (g.R.WindowPort.state c.args.client.now) z.2 c.turn.new.unit) (λ i. (queue i, own i, client i))
-    (idle_ready _ _ (c.turn.ensures.agrees agreed) idle)) c.turn.ensures.waits)
+    (g.O.WindowPort.state c.args.own.now) z.1 (g.R.WindowPort.state c.args.client.now) z.2 c.turn-done.new.unit) (λ i. (queue i, own i, client i))
+    (idle_ready _ _ (c.turn-done.ensures.agrees agreed) idle)) (told_quiet c.turn-done.result c.turn-done.new.unit.moved c.told.result c.told.ensures _ c.turn-done.ensures.waits))
 
 pub returns-clause-intake : goal.returns-clause-intake
 returns-clause-intake g c = λ receipts has.
     let server = c.args.self.now in
-    let there : slice_get server.units.items c.args.unit ≡ Some c.index_mut.result.now =
-    slice_get_read server.units.items _ c.args.unit _ server.units.ok.0 c.requires.unit c.index_mut.ensures.value in
-    let lent = c.turn.ensures.advances.reached in
+    let there : slice_get server.units.items c.args.unit ≡ Some c.index_mut-turned.result.now =
+    slice_get_read server.units.items _ c.args.unit _ server.units.ok.0 c.requires.unit c.index_mut-turned.ensures.value in
+    let lent = c.turn-done.ensures.advances.reached in
     let queue = sym (ap g.C.CrqEnd.state (c.crq-1.given.1 (sym (ap (λ (lent : Lenders). lent.queue) lent)))) in
     let own = sym (ap g.O.WindowPort.state (c.own-1.given.1 (sym (ap (λ (lent : Lenders). lent.own) lent)))) in
     let client = sym (ap g.R.WindowPort.state (c.client-1.given.1 (sym (ap (λ (lent : Lenders). lent.client) lent)))) in
     ∥∥₁_map server.serving (λ (all : AreServing (terms_of anything server.disk.count) server.partition server.units.items server.records.history.items).
-    let is = all c.args.unit c.index_mut.result.now there in
-    intake_turn server.units.items c.args.unit c.index_mut.result.now c.turn.new.unit _ _ _ _ _ _ _ _ _ _ _ _ there (is.id ∙ sym c.requires.named)
-    c.turn.ensures.intake refl refl refl refl own client queue refl receipts has)
+    let is = all c.args.unit c.index_mut-turned.result.now there in
+    intake_turn server.units.items c.args.unit c.index_mut-turned.result.now c.turn-done.new.unit _ _ _ _ _ _ _ _ _ _ _ _ there (is.id ∙ sym c.requires.named)
+    c.turn-done.ensures.intake refl refl refl refl own client queue refl receipts has)
 
 pub returns-clause-lines : goal.returns-clause-lines
 returns-clause-lines g c =
     let server = c.args.self.now in
-    let there : slice_get server.units.items c.args.unit ≡ Some c.index_mut.result.now =
-    slice_get_read server.units.items _ c.args.unit _ server.units.ok.0 c.requires.unit c.index_mut.ensures.value in
+    let there : slice_get server.units.items c.args.unit ≡ Some c.index_mut-turned.result.now =
+    slice_get_read server.units.items _ c.args.unit _ server.units.ok.0 c.requires.unit c.index_mut-turned.ensures.value in
     ∥∥₁_map server.serving (λ (all : AreServing (terms_of anything server.disk.count) server.partition server.units.items server.records.history.items).
-    let is = all c.args.unit c.index_mut.result.now there in
-    subst (λ (id : UnitId). LinesMore id (grant_of server.units.items c.args.unit) server.records.grants.items c.turn.new.records.grants.items) (is.id ∙ sym c.requires.named) (subst (λ (o : Option ServerUnit). LinesMore c.index_mut.result.now.id (granted_by o) server.records.grants.items c.turn.new.records.grants.items) (sym there)
-    c.turn.ensures.intake.lines))
+    let is = all c.args.unit c.index_mut-turned.result.now there in
+    subst (λ (id : UnitId). LinesMore id (grant_of server.units.items c.args.unit) server.records.grants.items c.turn-done.new.records.grants.items) (is.id ∙ sym c.requires.named) (subst (λ (o : Option ServerUnit). LinesMore c.index_mut-turned.result.now.id (granted_by o) server.records.grants.items c.turn-done.new.records.grants.items) (sym there)
+    c.turn-done.ensures.intake.lines))
 
 pub returns-clause-grants : goal.returns-clause-grants
 returns-clause-grants g c = λ granted is.
     let server = c.args.self.now in
-    let there : slice_get server.units.items c.args.unit ≡ Some c.index_mut.result.now =
-    slice_get_read server.units.items _ c.args.unit _ server.units.ok.0 c.requires.unit c.index_mut.ensures.value in
-    granting_on granted server.units.items server.records.grants.items c.turn.new.records.grants.items c.args.unit c.index_mut.result.now c.turn.new.unit there
-    c.turn.ensures.intake.granted c.turn.ensures.intake.lines is
+    let there : slice_get server.units.items c.args.unit ≡ Some c.index_mut-turned.result.now =
+    slice_get_read server.units.items _ c.args.unit _ server.units.ok.0 c.requires.unit c.index_mut-turned.ensures.value in
+    granting_on granted server.units.items server.records.grants.items c.turn-done.new.records.grants.items c.args.unit c.index_mut-turned.result.now c.turn-done.new.unit there
+    c.turn-done.ensures.intake.granted c.turn-done.ensures.intake.lines is
 
 pub returns-clause-judged : goal.returns-clause-judged
 returns-clause-judged g c = λ judged has.
     let server = c.args.self.now in
-    let there : slice_get server.units.items c.args.unit ≡ Some c.index_mut.result.now =
-    slice_get_read server.units.items _ c.args.unit _ server.units.ok.0 c.requires.unit c.index_mut.ensures.value in
-    let lent = c.turn.ensures.advances.reached in
+    let there : slice_get server.units.items c.args.unit ≡ Some c.index_mut-turned.result.now =
+    slice_get_read server.units.items _ c.args.unit _ server.units.ok.0 c.requires.unit c.index_mut-turned.ensures.value in
+    let lent = c.turn-done.ensures.advances.reached in
     let queue = sym (ap g.C.CrqEnd.state (c.crq-1.given.1 (sym (ap (λ (lent : Lenders). lent.queue) lent)))) in
     let own = sym (ap g.O.WindowPort.state (c.own-1.given.1 (sym (ap (λ (lent : Lenders). lent.own) lent)))) in
     let client = sym (ap g.R.WindowPort.state (c.client-1.given.1 (sym (ap (λ (lent : Lenders). lent.client) lent)))) in
     ∥∥₁_map server.serving (λ (all : AreServing (terms_of anything server.disk.count) server.partition server.units.items server.records.history.items).
-    let is = all c.args.unit c.index_mut.result.now there in
-    judged_turn server.units.items c.args.unit c.index_mut.result.now c.turn.new.unit _ _ server.records c.turn.new.records _ _ _ _ _ _ _ _ there (is.id ∙ sym c.requires.named)
-    c.turn.ensures.intake c.turn.ensures.judges refl refl refl refl own client queue refl judged has)
+    let is = all c.args.unit c.index_mut-turned.result.now there in
+    judged_turn server.units.items c.args.unit c.index_mut-turned.result.now c.turn-done.new.unit _ _ server.records c.turn-done.new.records _ _ _ _ _ _ _ _ there (is.id ∙ sym c.requires.named)
+    c.turn-done.ensures.intake c.turn-done.ensures.judges refl refl refl refl own client queue refl judged has)
 
 pub returns-clause-answered : goal.returns-clause-answered
 returns-clause-answered g c = λ alone judged has owes.
     let server = c.args.self.now in
-    let there : slice_get server.units.items c.args.unit ≡ Some c.index_mut.result.now =
-    slice_get_read server.units.items _ c.args.unit _ server.units.ok.0 c.requires.unit c.index_mut.ensures.value in
-    let lent = c.turn.ensures.advances.reached in
+    let there : slice_get server.units.items c.args.unit ≡ Some c.index_mut-turned.result.now =
+    slice_get_read server.units.items _ c.args.unit _ server.units.ok.0 c.requires.unit c.index_mut-turned.ensures.value in
+    let lent = c.turn-done.ensures.advances.reached in
     let queue = sym (ap g.C.CrqEnd.state (c.crq-1.given.1 (sym (ap (λ (lent : Lenders). lent.queue) lent)))) in
     ∥∥₁_map server.serving (λ (all : AreServing (terms_of anything server.disk.count) server.partition server.units.items server.records.history.items).
-    let is = all c.args.unit c.index_mut.result.now there in
-    answered_turn g.C.CrqEnd.is_shared server.units.items c.args.unit c.index_mut.result.now c.turn.new.unit _ _ server.records c.turn.new.records _ _ _ _ _ there (is.id ∙ sym c.requires.named)
-    c.turn.ensures.intake c.turn.ensures.answers refl refl refl refl queue alone judged has owes)
-
-pub returns-clause-runs : goal.returns-clause-runs
-returns-clause-runs g c = λ told tells all has.
-    let server = c.args.self.now in
-    let there : slice_get server.units.items c.args.unit ≡ Some c.index_mut.result.now =
-    slice_get_read server.units.items _ c.args.unit _ server.units.ok.0 c.requires.unit c.index_mut.ensures.value in
-    let is = all c.args.unit c.index_mut.result.now there in
-    let reached = ap (λ (lent : Lenders). lent.client) c.turn.ensures.advances.reached in
-    let own = sym (ap g.O.WindowPort.state (c.own-1.given.1 (sym (ap (λ (lent : Lenders). lent.own) c.turn.ensures.advances.reached)))) in
-    let heard = tells_turn told _ _ _ _ _ _ _ _ _ _ (sym (is.id ∙ sym c.requires.named)) own
-    (sym (ap g.R.WindowPort.state (c.client-1.given.1 (sym reached)))) tells in
-    subst (λ (port : PortState). HasRuns told (slice_set server.units.items c.args.unit c.turn.new.unit) c.args.unit port c.turn.new.site.copies.now.items c.turn.new.records) own
-    (runs_turn told server.units.items c.args.unit c.index_mut.result.now c.turn.new.unit _ _ _ _ server.records c.turn.new.records there
-    (c.turn.ensures.cargo told true heard is.serving) has)
-
-pub returns-clause-explains : goal.returns-clause-explains
-returns-clause-explains g c = λ told tells all since has.
-    let server = c.args.self.now in
-    let there : slice_get server.units.items c.args.unit ≡ Some c.index_mut.result.now =
-    slice_get_read server.units.items _ c.args.unit _ server.units.ok.0 c.requires.unit c.index_mut.ensures.value in
-    let is = all c.args.unit c.index_mut.result.now there in
-    let lent = c.turn.ensures.advances.reached in
-    let unit = (g.O.WindowPort.state c.args.own.now).place.unit in
-    let old = g.C.CrqEnd.state c.args.crq.now in
-    let queue = sym (ap g.C.CrqEnd.state (c.crq-1.given.1 (sym (ap (λ (lent : Lenders). lent.queue) lent)))) in
-    let heard = tells_turn told _ _ _ _ _ _ _ _ _ _ (sym (is.id ∙ sym c.requires.named)) (sym (ap g.O.WindowPort.state (c.own-1.given.1 (sym (ap (λ (lent : Lenders). lent.own) lent)))))
-    (sym (ap g.R.WindowPort.state (c.client-1.given.1 (sym (ap (λ (lent : Lenders). lent.client) lent))))) tells in
-    let ledger = ledger_at c.index_mut.result.now old.last_session old.taken (login_answers old.sent) server.records in
-    let front : Front = record { since = since; lines = server.records.grants.items; answers = login_answers old.sent; asked = None; closed = λ session. true } in
-    let step : AreExplained told c.index_mut.result.now.id since (basis_seen c.index_mut.result.now old server.records.grants.items)
-    → AreExplained told c.index_mut.result.now.id since (basis_seen c.turn.new.unit (g.C.CrqEnd.state c.turn.new.site.queue.now) c.turn.new.records.grants.items) =
-    λ known. (c.turn.ensures.refuses told heard is.serving front (λ session low none. absurd (cc (none)))
-    (accounted_first told c.index_mut.result.now.id front ledger known refl refl (λ earlier none. absurd (cc (none))) (λ earlier none. absurd (cc (none))) (λ earlier none. absurd (cc (none))))).known in
-    subst (λ (q : EndState). HasExplained told (slice_set server.units.items c.args.unit c.turn.new.unit) c.args.unit unit q since c.turn.new.records.grants.items) queue
-    (refuses_turn told server.units.items c.args.unit c.index_mut.result.now c.turn.new.unit unit old (g.C.CrqEnd.state c.turn.new.site.queue.now) since _ _ there
-    (subst (λ (id : UnitId). AreExplained told id since (basis_seen c.index_mut.result.now old server.records.grants.items)
-    → AreExplained told id since (basis_seen c.turn.new.unit (g.C.CrqEnd.state c.turn.new.site.queue.now) c.turn.new.records.grants.items)) (is.id ∙ sym c.requires.named) step) has)
+    let is = all c.args.unit c.index_mut-turned.result.now there in
+    answered_turn g.C.CrqEnd.is_shared server.units.items c.args.unit c.index_mut-turned.result.now c.turn-done.new.unit _ _ server.records c.turn-done.new.records _ _ _ _ _ there (is.id ∙ sym c.requires.named)
+    c.turn-done.ensures.intake c.turn-done.ensures.answers refl refl refl refl queue alone judged has owes)
 
 pub returns-clause-partner : goal.returns-clause-partner
 returns-clause-partner g c =
-    let reached = ap (λ (lent : Lenders). lent.queue) c.turn.ensures.advances.reached in
+    let reached = ap (λ (lent : Lenders). lent.queue) c.turn-done.ensures.advances.reached in
     subst (λ (queue : EndState). g.C.CrqEnd.is_shared ≡ false → queue.counts.partner_session ≡ (g.C.CrqEnd.state c.args.crq.now).counts.partner_session)
-    (sym (ap g.C.CrqEnd.state (c.crq-1.given.1 (sym reached)))) c.turn.ensures.advances.partner
+    (sym (ap g.C.CrqEnd.state (c.crq-1.given.1 (sym reached)))) c.turn-done.ensures.advances.partner
 
 pub returns-clause-sessions : goal.returns-clause-sessions
 returns-clause-sessions g c =
-    let reached = ap (λ (lent : Lenders). lent.queue) c.turn.ensures.advances.reached in
+    let reached = ap (λ (lent : Lenders). lent.queue) c.turn-done.ensures.advances.reached in
     subst (λ (queue : EndState). g.C.CrqEnd.is_shared ≡ false → PutsNow (g.C.CrqEnd.state c.args.crq.now) queue)
-    (sym (ap g.C.CrqEnd.state (c.crq-1.given.1 (sym reached)))) c.turn.ensures.advances.now
-
-pub returns-clause-logins : goal.returns-clause-logins
-returns-clause-logins g c = λ told tells all since has earlier order on closed knows dealt.
-    let server = c.args.self.now in
-    let there : slice_get server.units.items c.args.unit ≡ Some c.index_mut.result.now =
-    slice_get_read server.units.items _ c.args.unit _ server.units.ok.0 c.requires.unit c.index_mut.ensures.value in
-    let is = all c.args.unit c.index_mut.result.now there in
-    let lent = c.turn.ensures.advances.reached in
-    let unit = (g.O.WindowPort.state c.args.own.now).place.unit in
-    let old = g.C.CrqEnd.state c.args.crq.now in
-    let queue = sym (ap g.C.CrqEnd.state (c.crq-1.given.1 (sym (ap (λ (lent : Lenders). lent.queue) lent)))) in
-    let heard = tells_turn told _ _ _ _ _ _ _ _ _ _ (sym (is.id ∙ sym c.requires.named)) (sym (ap g.O.WindowPort.state (c.own-1.given.1 (sym (ap (λ (lent : Lenders). lent.own) lent)))))
-    (sym (ap g.R.WindowPort.state (c.client-1.given.1 (sym (ap (λ (lent : Lenders). lent.client) lent))))) tells in
-    let known = subst (λ (id : UnitId). AreExplained told id since (basis_seen c.index_mut.result.now old server.records.grants.items)) (sym (is.id ∙ sym c.requires.named))
-    (some_at (slice_get server.units.items c.args.unit) c.index_mut.result.now (λ (u : ServerUnit). AreExplained told unit since (basis_seen u old server.records.grants.items)) there has) in
-    let units' = slice_set server.units.items c.args.unit c.turn.new.unit in
-    subst (λ (q : EndState). AnswersInOrder told earlier closed units' c.args.unit unit old q server.records c.turn.new.records) queue
-    (subst (λ (id : UnitId). AnswersInOrder told earlier closed units' c.args.unit id old (g.C.CrqEnd.state c.turn.new.site.queue.now) server.records c.turn.new.records) (is.id ∙ sym c.requires.named)
-    (in_order_turn told server.units.items c.args.unit c.index_mut.result.now c.turn.new.unit c.index_mut.result.now.id old (g.C.CrqEnd.state c.turn.new.site.queue.now) since earlier closed server.records c.turn.new.records
-    there known (λ front same. c.turn.ensures.refuses told heard is.serving front (λ session low none.
-    let known = subst (λ (q : EndState). KnowsSends (AgreesAt server.units.items c.args.unit old) g.C.CrqEnd.is_shared old q closed) (sym queue) knows session low
-    (sym (ap (λ (f : ℕ → Bool). f session) same) ∙ none) in
-    (some_at (slice_get server.units.items c.args.unit) c.index_mut.result.now (λ (u : ServerUnit). Agrees u.line.handshake old) there known.0, known.1))) refl c.turn.ensures.intake.id order
-    (subst (λ (id : UnitId). LinesTellLogin server.units.items c.args.unit id old server.records.grants.items) (sym (is.id ∙ sym c.requires.named)) on)
-    (subst (λ (id : UnitId). HasDealt told earlier closed server.units.items c.args.unit id old) (sym (is.id ∙ sym c.requires.named)) dealt)))
+    (sym (ap g.C.CrqEnd.state (c.crq-1.given.1 (sym reached)))) c.turn-done.ensures.advances.now
 
 pub returns-clause-moved : goal.returns-clause-moved
 returns-clause-moved g c =
     let server = c.args.self.now in
-    let there : slice_get server.units.items c.args.unit ≡ Some c.index_mut.result.now =
-    slice_get_read server.units.items _ c.args.unit _ server.units.ok.0 c.requires.unit c.index_mut.ensures.value in
-    let reached = ap (λ (lent : Lenders). lent.queue) c.turn.ensures.advances.reached in
-    subst (λ (queue : EndState). Differs c.turn.result (IsStill (g.C.CrqEnd.state c.args.crq.now) queue
-    × (way_of (slice_set server.units.items c.args.unit c.turn.new.unit) c.args.unit ≡ way_of server.units.items c.args.unit)))
+    let there : slice_get server.units.items c.args.unit ≡ Some c.index_mut-turned.result.now =
+    slice_get_read server.units.items _ c.args.unit _ server.units.ok.0 c.requires.unit c.index_mut-turned.ensures.value in
+    let reached = ap (λ (lent : Lenders). lent.queue) c.turn-done.ensures.advances.reached in
+    subst (λ (queue : EndState). Differs c.told.result (IsStill (g.C.CrqEnd.state c.args.crq.now) queue
+    × (way_of (slice_set server.units.items c.args.unit c.turn-done.new.unit) c.args.unit ≡ way_of server.units.items c.args.unit)))
     (sym (ap g.C.CrqEnd.state (c.crq-1.given.1 (sym reached))))
-    (way_moved c.turn.result server.units.items c.args.unit c.index_mut.result.now c.turn.new.unit (g.C.CrqEnd.state c.args.crq.now) (g.C.CrqEnd.state c.turn.new.site.queue.now) there
-    (differs_by (AreServing (terms_of anything server.disk.count) server.partition server.units.items server.records.history.items) _ c.turn.result server.serving
+    (way_moved c.told.result server.units.items c.args.unit c.index_mut-turned.result.now c.turn-done.new.unit (g.C.CrqEnd.state c.args.crq.now) (g.C.CrqEnd.state c.turn-done.new.site.queue.now) there
+    (differs_by (AreServing (terms_of anything server.disk.count) server.partition server.units.items server.records.history.items) _ c.told.result server.serving
     (λ (all : AreServing (terms_of anything server.disk.count) server.partition server.units.items server.records.history.items).
-    c.turn.ensures.moved anything (all c.args.unit c.index_mut.result.now there).serving)))
+    told_moved c.turn-done.result c.turn-done.new.unit.moved c.told.result c.told.ensures _
+    (on_ok c.turn-done.result _ _ (λ comes moved. comes_apart (record c.index_mut-turned.result.now { moved = false }) c.turn-done.new.unit _ _ comes refl moved) (c.turn-done.ensures.comes anything (all c.args.unit c.index_mut-turned.result.now there).serving)))))
 
-pub returns-clause-talks : goal.returns-clause-talks
-returns-clause-talks g c = λ words u at calm.
+pub returns-clause-if_ready : goal.returns-clause-if_ready
+returns-clause-if_ready g c = λ words u at calm.
     let server = c.args.self.now in
-    let there : slice_get server.units.items c.args.unit ≡ Some c.index_mut.result.now =
-    slice_get_read server.units.items _ c.args.unit _ server.units.ok.0 c.requires.unit c.index_mut.ensures.value in
-    let reached = ap (λ (lent : Lenders). lent.queue) c.turn.ensures.advances.reached in
-    subst (λ (queue : EndState). OnOk c.turn.result (UnitTalksOn (slice_set server.units.items c.args.unit c.turn.new.unit) c.args.unit u
-    (reach (g.C.CrqEnd.state c.args.crq.now) (g.R.WindowPort.state c.args.client.now) g.R.WindowPort.is_shared) queue server.records.grants.items c.turn.new.records.grants.items words))
-    (sym (ap g.C.CrqEnd.state (c.crq-1.given.1 (sym reached))))
-    (unit_talks _ server.units.items c.args.unit u c.index_mut.result.now c.turn.new.unit
-    (reach (g.C.CrqEnd.state c.args.crq.now) (g.R.WindowPort.state c.args.client.now) g.R.WindowPort.is_shared) (g.C.CrqEnd.state c.turn.new.site.queue.now)
-    server.records.grants.items c.turn.new.records.grants.items words c.turn.result there at (c.turn.ensures.talks words) calm)
-
-pub returns-clause-writes : goal.returns-clause-writes
-returns-clause-writes g c = λ told tells all words u at calm.
-    let server = c.args.self.now in
-    let there : slice_get server.units.items c.args.unit ≡ Some c.index_mut.result.now =
-    slice_get_read server.units.items _ c.args.unit _ server.units.ok.0 c.requires.unit c.index_mut.ensures.value in
-    let is = all c.args.unit c.index_mut.result.now there in
-    let reached = ap (λ (lent : Lenders). lent.client) c.turn.ensures.advances.reached in
-    let heard = tells_turn told _ _ _ _ _ _ _ _ _ _ (sym (is.id ∙ sym c.requires.named)) (sym (ap g.O.WindowPort.state (c.own-1.given.1 (sym (ap (λ (lent : Lenders). lent.own) c.turn.ensures.advances.reached)))))
-    (sym (ap g.R.WindowPort.state (c.client-1.given.1 (sym reached)))) tells in
-    let client = sym (ap g.R.WindowPort.state (c.client-1.given.1 (sym reached))) in
-    subst (λ (z : UnitId × PortState). OnOk c.turn.result (WritesOn (told_to told z.0) u (g.C.CrqEnd.state c.args.crq.now) words
-    (seen_in g.R.WindowPort.is_shared (g.R.WindowPort.state c.args.client.now)) (seen_in g.R.WindowPort.is_shared z.1)))
-    (λ i. ((is.id ∙ sym c.requires.named) i, client i))
-    (unit_writes (told_to told c.index_mut.result.now.id) _ server.units.items c.args.unit u c.index_mut.result.now
-    (reach (g.C.CrqEnd.state c.args.crq.now) (g.R.WindowPort.state c.args.client.now) g.R.WindowPort.is_shared) words _
-    (seen_in g.R.WindowPort.is_shared (g.R.WindowPort.state c.turn.new.site.client.now)) c.turn.result there at
-    (c.turn.ensures.writes told heard is.serving words) calm)
-
-pub returns-clause-leaves : goal.returns-clause-leaves
-returns-clause-leaves g c = λ words u at calm.
-    let server = c.args.self.now in
-    let there : slice_get server.units.items c.args.unit ≡ Some c.index_mut.result.now =
-    slice_get_read server.units.items _ c.args.unit _ server.units.ok.0 c.requires.unit c.index_mut.ensures.value in
-    let lent = c.turn.ensures.advances.reached in
+    let there : slice_get server.units.items c.args.unit ≡ Some c.index_mut-turned.result.now =
+    slice_get_read server.units.items _ c.args.unit _ server.units.ok.0 c.requires.unit c.index_mut-turned.ensures.value in
+    let lent = c.turn-done.ensures.advances.reached in
     let queue = sym (ap g.C.CrqEnd.state (c.crq-1.given.1 (sym (ap (λ (lent : Lenders). lent.queue) lent)))) in
     let client = sym (ap g.R.WindowPort.state (c.client-1.given.1 (sym (ap (λ (lent : Lenders). lent.client) lent)))) in
-    subst (λ (z : EndState × PortState). OnOk c.turn.result (LeavesOn (g.O.WindowPort.state c.args.own.now).place.unit u (g.C.CrqEnd.state c.args.crq.now) words z.0
-    (g.R.WindowPort.state c.args.client.now) z.1 server.records.history.items c.turn.new.records.history.items)) (λ i. (queue i, client i))
-    (unit_leaves _ (g.O.WindowPort.state c.args.own.now).place.unit server.units.items c.args.unit u c.index_mut.result.now
-    (reach (g.C.CrqEnd.state c.args.crq.now) (g.R.WindowPort.state c.args.client.now) g.R.WindowPort.is_shared) words
-    (g.C.CrqEnd.state c.turn.new.site.queue.now) (g.R.WindowPort.state c.args.client.now) (g.R.WindowPort.state c.turn.new.site.client.now)
-    server.records.history.items c.turn.new.records.history.items c.turn.result there at (c.turn.ensures.leaves words) calm)
-
-pub returns-clause-places : goal.returns-clause-places
-returns-clause-places g c = λ words u at calm.
-    let server = c.args.self.now in
-    let there : slice_get server.units.items c.args.unit ≡ Some c.index_mut.result.now =
-    slice_get_read server.units.items _ c.args.unit _ server.units.ok.0 c.requires.unit c.index_mut.ensures.value in
-    let client = sym (ap g.R.WindowPort.state (c.client-1.given.1 (sym (ap (λ (lent : Lenders). lent.client) c.turn.ensures.advances.reached)))) in
-    subst (λ (port : PortState). OnOk c.turn.result (WritesOn (stood (g.R.WindowPort.state c.args.client.now)) u (g.C.CrqEnd.state c.args.crq.now) words
-    (seen_in g.R.WindowPort.is_shared (g.R.WindowPort.state c.args.client.now)) (seen_in g.R.WindowPort.is_shared port))) client
-    (unit_writes (stood (g.R.WindowPort.state c.args.client.now)) _ server.units.items c.args.unit u c.index_mut.result.now
-    (reach (g.C.CrqEnd.state c.args.crq.now) (g.R.WindowPort.state c.args.client.now) g.R.WindowPort.is_shared) words _
-    (seen_in g.R.WindowPort.is_shared (g.R.WindowPort.state c.turn.new.site.client.now)) c.turn.result there at
-    (c.turn.ensures.places words) calm)
+    record {
+      talks =
+          subst (λ (queue : EndState). OnOk c.told.result (UnitTalksOn (slice_set server.units.items c.args.unit c.turn-done.new.unit) c.args.unit u
+          (reach (g.C.CrqEnd.state c.args.crq.now) (g.R.WindowPort.state c.args.client.now) g.R.WindowPort.is_shared) queue server.records.grants.items c.turn-done.new.records.grants.items words))
+          queue
+          (unit_talks _ server.units.items c.args.unit u c.index_mut-turned.result.now c.turn-done.new.unit
+          (reach (g.C.CrqEnd.state c.args.crq.now) (g.R.WindowPort.state c.args.client.now) g.R.WindowPort.is_shared) (g.C.CrqEnd.state c.turn-done.new.site.queue.now)
+          server.records.grants.items c.turn-done.new.records.grants.items words c.told.result there at
+          (λ calm. told_on c.turn-done.result c.turn-done.new.unit.moved c.told.result c.told.ensures _ _ (talks_from c.index_mut-turned.result.now (record c.index_mut-turned.result.now { moved = false }) c.turn-done.new.unit (reach (g.C.CrqEnd.state c.args.crq.now) (g.R.WindowPort.state c.args.client.now) g.R.WindowPort.is_shared) _ _ _ words refl refl)
+          (c.turn-done.ensures.talks words (calm_from c.index_mut-turned.result.now (record c.index_mut-turned.result.now { moved = false }) (reach (g.C.CrqEnd.state c.args.crq.now) (g.R.WindowPort.state c.args.client.now) g.R.WindowPort.is_shared) _ words refl refl refl refl calm))) calm);
+      places =
+          subst (λ (port : PortState). OnOk c.told.result (WritesOn (stood (g.R.WindowPort.state c.args.client.now)) u (g.C.CrqEnd.state c.args.crq.now) words
+          (seen_in g.R.WindowPort.is_shared (g.R.WindowPort.state c.args.client.now)) (seen_in g.R.WindowPort.is_shared port))) client
+          (unit_writes (stood (g.R.WindowPort.state c.args.client.now)) _ server.units.items c.args.unit u c.index_mut-turned.result.now
+          (reach (g.C.CrqEnd.state c.args.crq.now) (g.R.WindowPort.state c.args.client.now) g.R.WindowPort.is_shared) words _
+          (seen_in g.R.WindowPort.is_shared (g.R.WindowPort.state c.turn-done.new.site.client.now)) c.told.result there at
+          (λ calm. told_on c.turn-done.result c.turn-done.new.unit.moved c.told.result c.told.ensures _ _ (writes_from (stood (g.R.WindowPort.state c.args.client.now)) c.index_mut-turned.result.now (record c.index_mut-turned.result.now { moved = false }) _ words _ _ refl)
+          (c.turn-done.ensures.places words (calm_from c.index_mut-turned.result.now (record c.index_mut-turned.result.now { moved = false }) (reach (g.C.CrqEnd.state c.args.crq.now) (g.R.WindowPort.state c.args.client.now) g.R.WindowPort.is_shared) _ words refl refl refl refl calm))) calm);
+      leaves =
+          subst (λ (z : EndState × PortState). OnOk c.told.result (LeavesOn (g.O.WindowPort.state c.args.own.now).place.unit u (g.C.CrqEnd.state c.args.crq.now) words z.0
+          (g.R.WindowPort.state c.args.client.now) z.1 server.records.history.items c.turn-done.new.records.history.items)) (λ i. (queue i, client i))
+          (unit_leaves _ (g.O.WindowPort.state c.args.own.now).place.unit server.units.items c.args.unit u c.index_mut-turned.result.now
+          (reach (g.C.CrqEnd.state c.args.crq.now) (g.R.WindowPort.state c.args.client.now) g.R.WindowPort.is_shared) words
+          (g.C.CrqEnd.state c.turn-done.new.site.queue.now) (g.R.WindowPort.state c.args.client.now) (g.R.WindowPort.state c.turn-done.new.site.client.now)
+          server.records.history.items c.turn-done.new.records.history.items c.told.result there at
+          (λ calm. told_on c.turn-done.result c.turn-done.new.unit.moved c.told.result c.told.ensures _ _ (leaves_from _ c.index_mut-turned.result.now (record c.index_mut-turned.result.now { moved = false }) _ words _ _ _ _ _ refl)
+          (c.turn-done.ensures.leaves words (calm_from c.index_mut-turned.result.now (record c.index_mut-turned.result.now { moved = false }) (reach (g.C.CrqEnd.state c.args.crq.now) (g.R.WindowPort.state c.args.client.now) g.R.WindowPort.is_shared) _ words refl refl refl refl calm))) calm);
+      rows =
+          unit_rows _ server.units.items c.args.unit u c.index_mut-turned.result.now
+          (reach (g.C.CrqEnd.state c.args.crq.now) (g.R.WindowPort.state c.args.client.now) g.R.WindowPort.is_shared) words _ _ c.told.result there at
+          (λ calm. told_on c.turn-done.result c.turn-done.new.unit.moved c.told.result c.told.ensures _ _ (rows_from c.index_mut-turned.result.now (record c.index_mut-turned.result.now { moved = false }) _ words _ _ refl refl) (c.turn-done.ensures.rows words (calm_from c.index_mut-turned.result.now (record c.index_mut-turned.result.now { moved = false }) (reach (g.C.CrqEnd.state c.args.crq.now) (g.R.WindowPort.state c.args.client.now) g.R.WindowPort.is_shared) _ words refl refl refl refl calm))) calm;
+    }
 
 pub returns-clause-opens : goal.returns-clause-opens
 returns-clause-opens g c = λ u at is.
     let server = c.args.self.now in
-    let there : slice_get server.units.items c.args.unit ≡ Some c.index_mut.result.now =
-    slice_get_read server.units.items _ c.args.unit _ server.units.ok.0 c.requires.unit c.index_mut.ensures.value in
-    let lent = c.turn.ensures.advances.reached in
+    let there : slice_get server.units.items c.args.unit ≡ Some c.index_mut-turned.result.now =
+    slice_get_read server.units.items _ c.args.unit _ server.units.ok.0 c.requires.unit c.index_mut-turned.ensures.value in
+    let lent = c.turn-done.ensures.advances.reached in
     let queue = sym (ap g.C.CrqEnd.state (c.crq-1.given.1 (sym (ap (λ (lent : Lenders). lent.queue) lent)))) in
     let client = sym (ap g.R.WindowPort.state (c.client-1.given.1 (sym (ap (λ (lent : Lenders). lent.client) lent)))) in
     let before = reach (g.C.CrqEnd.state c.args.crq.now) (g.R.WindowPort.state c.args.client.now) g.R.WindowPort.is_shared in
-    subst (λ (z : EndState × PortState). OnOk c.turn.result (UnitOpensOn (slice_set server.units.items c.args.unit c.turn.new.unit) c.args.unit u before (reach z.0 z.1 g.R.WindowPort.is_shared)
-    server.records.grants.items c.turn.new.records.grants.items server.records.history.items c.turn.new.records.history.items)) (λ i. (queue i, client i))
-    (unit_opens _ server.units.items c.args.unit u c.index_mut.result.now c.turn.new.unit before
-    (reach (g.C.CrqEnd.state c.turn.new.site.queue.now) (g.R.WindowPort.state c.turn.new.site.client.now) g.R.WindowPort.is_shared) _ _ _ _ c.turn.result there at c.turn.ensures.opens is)
+    subst (λ (z : EndState × PortState). OnOk c.told.result (UnitOpensOn (slice_set server.units.items c.args.unit c.turn-done.new.unit) c.args.unit u before (reach z.0 z.1 g.R.WindowPort.is_shared)
+    server.records.grants.items c.turn-done.new.records.grants.items server.records.history.items c.turn-done.new.records.history.items)) (λ i. (queue i, client i))
+    (unit_opens _ server.units.items c.args.unit u c.index_mut-turned.result.now c.turn-done.new.unit before
+    (reach (g.C.CrqEnd.state c.turn-done.new.site.queue.now) (g.R.WindowPort.state c.turn-done.new.site.client.now) g.R.WindowPort.is_shared) _ _ _ _ c.told.result there at
+    (λ is. told_on c.turn-done.result c.turn-done.new.unit.moved c.told.result c.told.ensures _ _ (opens_unmoved c.index_mut-turned.result.now (record c.index_mut-turned.result.now { moved = false }) c.turn-done.new.unit before
+    (reach (g.C.CrqEnd.state c.turn-done.new.site.queue.now) (g.R.WindowPort.state c.turn-done.new.site.client.now) g.R.WindowPort.is_shared) _ _ _ _ refl refl)
+    (c.turn-done.ensures.opens (new_unmoved _ c.index_mut-turned.result.now (record c.index_mut-turned.result.now { moved = false }) before refl refl refl refl refl is))) is)
 
-pub returns-clause-rows : goal.returns-clause-rows
-returns-clause-rows g c = λ words u at calm.
+pub returns-clause-does : goal.returns-clause-does
+returns-clause-does g c = λ alone apart u at rests.
     let server = c.args.self.now in
-    let there : slice_get server.units.items c.args.unit ≡ Some c.index_mut.result.now =
-    slice_get_read server.units.items _ c.args.unit _ server.units.ok.0 c.requires.unit c.index_mut.ensures.value in
-    unit_rows _ server.units.items c.args.unit u c.index_mut.result.now
-    (reach (g.C.CrqEnd.state c.args.crq.now) (g.R.WindowPort.state c.args.client.now) g.R.WindowPort.is_shared) words _ _ c.turn.result there at (c.turn.ensures.rows words) calm
+    let there : slice_get server.units.items c.args.unit ≡ Some c.index_mut-turned.result.now =
+    slice_get_read server.units.items _ c.args.unit _ server.units.ok.0 c.requires.unit c.index_mut-turned.ensures.value in
+    let lent = c.turn-done.ensures.advances.reached in
+    let queue = sym (ap g.C.CrqEnd.state (c.crq-1.given.1 (sym (ap (λ (lent : Lenders). lent.queue) lent)))) in
+    let client = sym (ap g.R.WindowPort.state (c.client-1.given.1 (sym (ap (λ (lent : Lenders). lent.client) lent)))) in
+    let name = (g.O.WindowPort.state c.args.own.now).place.unit in
+    subst (λ (z : EndState × PortState). OnOk c.told.result (UnitDoes (slice_set server.units.items c.args.unit c.turn-done.new.unit) c.args.unit u name (g.C.CrqEnd.state c.args.crq.now) z.0
+    (g.R.WindowPort.state c.args.client.now) z.1 server.records.history.items c.turn-done.new.records.history.items server.records.grants.items c.turn-done.new.records.grants.items)) (λ i. (queue i, client i))
+    (unit_does server.units.items c.args.unit u c.index_mut-turned.result.now c.turn-done.new.unit name (g.O.WindowPort.state c.turn-done.new.site.own.now).place.unit
+    (g.C.CrqEnd.state c.args.crq.now) (g.C.CrqEnd.state c.turn-done.new.site.queue.now) (g.R.WindowPort.state c.args.client.now) (g.R.WindowPort.state c.turn-done.new.site.client.now) _ _ _ _ c.told.result
+    there at (λ i. (c.turn-done.ensures.advances.own_place i).unit) (λ rests. told_on c.turn-done.result c.turn-done.new.unit.moved c.told.result c.told.ensures _ _ (λ does. does) (c.turn-done.ensures.does alone apart rests)) rests)
