@@ -2,7 +2,7 @@
 use Rattle.std.proofs.Common.{◌≡◌, ℕ, List, [], Option, Some, None, Result, Ok, Err, IfOk, IfSome, IsSome, ap, refl, subst, sym}
 use Rattle.vio_io.specs.Image.{ImageState, after_sizing}
 use Rattle.boot_text.specs.declared.plan.Plan.{Plan}
-use Rattle.vcpu_run.specs.Caused.{LeadsCaused}
+use Rattle.vcpu_run.specs.Caused.{LeadsCaused, RowsAreInForm}
 use Rattle.vcpu_run.specs.OnDisk.{IsServed, LeadsOn}
 use Rattle.vio_trace.specs.declared.rows.Trace.{Trace}
 use Rattle.paprvio.specs.declared.answer.Answer.{Answer}
@@ -19,6 +19,7 @@ trace_sized plan image counted image' trace same is = record {
   served = subst (λ (blocks : Option (List (List ℕ))). LeadsOn trace.serves blocks image'.blocks) (ap (λ (s : ImageState). s.blocks) same) is.served;
   caused = subst (λ (blocks : Option (List (List ℕ))). LeadsCaused plan.partitions trace blocks image'.blocks) (ap (λ (s : ImageState). s.blocks) same) is.caused;
   tells = subst (λ (blocks : Option (List (List ℕ))). IfSome blocks (λ all. IsSome image'.blocks)) (ap (λ (s : ImageState). s.blocks) same) is.tells;
+  formed = subst (RowsAreInForm plan.partitions trace) (ap (λ (s : ImageState). s.size) same) is.formed;
 }
 
 told_sized : (telling : Telling) (plan : Plan) (image counted image' : ImageState) (text : List ℕ) → counted ≡ after_sizing image

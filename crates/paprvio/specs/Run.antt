@@ -6,7 +6,7 @@ use Rattle.boot_text.specs.BootText.{plan_of, refused, SaysPlan}
 use Rattle.boot_text.specs.declared.cause.Cause.{Cause}
 use Rattle.boot_text.specs.declared.plan.Plan.{Plan}
 use Rattle.boot_text.specs.declared.read.TheConstants.{MOST_TEXT}
-use Rattle.vcpu_run.specs.Caused.{LeadsCaused}
+use Rattle.vcpu_run.specs.Caused.{LeadsCaused, RowsAreInForm}
 use Rattle.vcpu_run.specs.OnDisk.{LeadsOn}
 use Rattle.vcpu_run.specs.RunLaw.{KeepsLaw}
 use Rattle.vio_io.specs.Image.{ImageState, AreWhole}
@@ -52,12 +52,14 @@ abbrev pub Says : (boot : List ℕ) → Plan → Type 0
 Says boot plan = SaysPlan (plan_of boot) plan
 
 -- A trace that keeps the law of a run of the plan, whose rows of served requests lead from the blocks of the image to those that
--- it then has, each with a cause that the trace shows; an image that told its blocks still tells them.
+-- it then has, each with a cause that the trace shows; an image that told its blocks still tells them. Whatever it tells, each row that is
+-- answered is in form, on a disk of as many blocks as the image had.
 pub record IsTraceOn (plan : Plan) (image image' : ImageState) (trace : Trace) : Type 0 where
   pub lawful : KeepsLaw plan trace
   pub served : LeadsOn trace.serves image.blocks image'.blocks
   pub caused : LeadsCaused plan.partitions trace image.blocks image'.blocks
   pub tells : IfSome image.blocks (λ blocks. IsSome image'.blocks)
+  pub formed : RowsAreInForm plan.partitions trace image.size
 
 -- the text of such a trace
 pub record IsTraceOf (plan : Plan) (image image' : ImageState) (text : List ℕ) : Type 0 where

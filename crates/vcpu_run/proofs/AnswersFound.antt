@@ -22,13 +22,14 @@ use Rattle.vcpu_run.specs.declared.script.Script.{Script}
 use Rattle.vcpu_run.specs.declared.unit_seat.Seat.TheVariants as sits
 use Rattle.vcpu_run.specs.declared.unit_seat.UnitSeat.{UnitSeat}
 use Rattle.vcpu_run.specs.Agreed.{driver_in}
+use Rattle.vcpu_run.specs.Answered.{AreBegun}
 use Rattle.vcpu_run.specs.AnswersSeen.{AreResponsesRead}
 use Rattle.vcpu_run.specs.Pairs.{IsDriver}
 use Rattle.vcpu_run.specs.AnswersTaken.{AreAnswersTaken, answers_to}
 use Rattle.vcpu_run.specs.CopyRows.{same_unit}
 use Rattle.vcpu_run.specs.Credited.{Ended}
 use Rattle.vcpu_run.specs.Gathered.{HasLawfulQueue, answer_by, answers_at, queue_at, rows_if, sessions_at, trace_of}
-use Rattle.vcpu_run.specs.Intake.{rows_taken}
+use Rattle.vcpu_run.specs.Intake.{entries_taken, rows_taken}
 use Rattle.vcpu_run.specs.Machines.{AreScripts, IsOfPlan}
 use Rattle.vcpu_run.specs.Sessions.{session_rows}
 use Rattle.vcpu_run.specs.Shown.{sessions_of}
@@ -52,6 +53,33 @@ pub record IsClientGiven (trace : Trace) (client server : UnitId) (own : List En
   pub takes : AreAnswersTaken trace client own
   pub reads : AreDataTold (seen_in trace client server) server own (answers_to trace client)
   pub read : AreResponsesRead (seen_in trace client server).front_at (answers_to trace client)
+
+-- the answers of a client are those that its driver noted
+pub client_answers : (partitions : List Partition) (pairs : List Pair) (scripts : List Script) (lan : LanValue) (rows : LanRows) (history : List Served) (grants : List Grant) (copies : List CopyRecord)
+    (client server : UnitId) (pair : Pair) (driver : Driver) → AreScripts pairs lan.seats scripts → IsOfPlan partitions pairs scripts lan.seats → IsClientOf partitions client server
+    → slice_get pairs server.unit ≡ Some pair → pair.driver ≡ Some driver
+    → answers_to (trace_of pairs scripts lan rows history grants copies) client ≡ map (answer_by client) driver.answers.items
+client_answers partitions pairs scripts lan rows history grants copies client server pair driver are plan is there slot =
+    let seat : UnitSeat = unit_seat client.partition client.unit (sits.Client server.unit) in
+    let inside : IsIn seat (seats_of scripts) = planned_in partitions pairs scripts lan.seats client (units.Client server is.0 is.1) are plan is.2 in
+    found (λ (row : AnswerRow). same_unit row.unit client) (λ (other : UnitSeat). same_unit other.unit client) (answers_at pairs) seat (same_refl client) (seats_of scripts) inside
+    (answers_told pairs client (seats_of scripts)) (names_apart client (seats_of scripts) (seats_ordered pairs lan.seats scripts are))
+    ∙ ap (rows_if (λ (d : Driver). map (answer_by client) d.answers.items)) (ap driver_in there ∙ slot)
+
+-- and what it took is what its queue gave
+pub client_entries : (partitions : List Partition) (pairs : List Pair) (scripts : List Script) (lan : LanValue) (rows : LanRows) (history : List Served) (grants : List Grant) (copies : List CopyRecord)
+    (client server : UnitId) (pair : Pair) → AreScripts pairs lan.seats scripts → IsOfPlan partitions pairs scripts lan.seats → IsClientOf partitions client server
+    → slice_get pairs server.unit ≡ Some pair → IsLawfulPipe (side_of pair.link false).queue → AreBegun (side_of pair.link false).queue.taken
+    → entries_taken (trace_of pairs scripts lan rows history grants copies) client ≡ (side_of pair.link false).queue.taken
+client_entries partitions pairs scripts lan rows history grants copies client server pair are plan is there laws begun =
+    let seat : UnitSeat = unit_seat client.partition client.unit (sits.Client server.unit) in
+    let inside : IsIn seat (seats_of scripts) = planned_in partitions pairs scripts lan.seats client (units.Client server is.0 is.1) are plan is.2 in
+    let pipe : PipeValue = (side_of pair.link false).queue in
+    let sessions : sessions_of (trace_of pairs scripts lan rows history grants copies) client ≡ session_rows client pipe =
+    found (λ (row : QueueRow). same_unit row.unit client) (λ (other : UnitSeat). same_unit other.unit client) (sessions_at pairs) seat (same_refl client) (seats_of scripts) inside
+    (sessions_told pairs client (seats_of scripts)) (names_apart client (seats_of scripts) (seats_ordered pairs lan.seats scripts are))
+    ∙ ap (rows_if (session_rows client)) (ap (option_map (λ (pair : Pair). (side_of pair.link false).queue)) there) in
+    ap (flat_map rows_taken) sessions ∙ all_taken client pipe laws begun
 
 pub client_takes : (partitions : List Partition) (pairs : List Pair) (scripts : List Script) (lan : LanValue) (rows : LanRows) (history : List Served) (grants : List Grant) (copies : List CopyRecord)
     (client server : UnitId) (own : List Ended) (pair : Pair) (P : Driver → Type 0) → AreScripts pairs lan.seats scripts → All (HasLawfulQueue pairs) (seats_of scripts)
@@ -85,10 +113,7 @@ client_takes partitions pairs scripts lan rows history grants copies client serv
         ∙ ap (rows_if (session_rows client)) queue
 
     answers : (driver : Driver) → pair.driver ≡ Some driver → answers_to trace client ≡ map (answer_by client) driver.answers.items
-    answers driver slot =
-        found (λ (row : AnswerRow). same_unit row.unit client) (λ (other : UnitSeat). same_unit other.unit client) (answers_at pairs) seat (same_refl client) (seats_of scripts) inside
-        (answers_told pairs client (seats_of scripts)) (names_apart client (seats_of scripts) (seats_ordered pairs lan.seats scripts are))
-        ∙ ap (rows_if (λ (d : Driver). map (answer_by client) d.answers.items)) (ap driver_in there ∙ slot)
+    answers driver slot = client_answers partitions pairs scripts lan rows history grants copies client server pair driver are plan is there slot
 
     at : (o : Option Driver) → pair.driver ≡ o → IsSomeAnd o P → IfSome o (IsDriver pair.window) → IfSome o (IsTaken own pair) → IsClientGiven trace client server own
     at None slot has driven is = absurd has

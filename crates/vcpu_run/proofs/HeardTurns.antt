@@ -231,7 +231,7 @@ heard_driven size partition units records copies old new driven are = record {
 pub heard_fresh : (size partition : ℕ) (units : List Unit) (records : Records) (copies : List CopyRecord) (pairs : List Pair) → records.history.items ≡ [] → records.grants.items ≡ []
     → ((told : Told → Bool) → AreInOrder told size partition units records) → AreIdle units → ExplainNone units → AreUnused units → AreNew pairs → AreHeard size partition units records copies pairs
 heard_fresh size partition units records copies pairs no_rows no_lines order idle unrefused unused fresh = record {
-  all = λ told tells. record { order = order told; written = subst (AreWritten told) (sym no_rows) tt };
+  all = λ told tells. record { order = order told; written = subst (AreWritten size told) (sym no_rows) tt };
   each = λ told tells k pair found. ∣ record {
     cargo = runs_unused told units k (known_of pair.own) copies records idle no_rows;
     explained = subst (λ (since : List Grant). HasExplained told units k pair.own.unit (end_of [] pair.link true) since records.grants.items) no_lines

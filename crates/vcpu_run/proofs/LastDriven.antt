@@ -1,5 +1,5 @@
--- Over what a client's side does, over a turn of another server unit, and before the first turn: the answers of a login that goes on are of the client's
--- present session.
+-- Over what a client's side does, over a turn of another server unit, and before the first turn: the answers of a login that goes on are of
+-- the client's present session.
 use Rattle.std.proofs.Common.{◌≡◌, ◌≢◌, ◌⊎◌, inl, inr, ◌∙◌, ◌<◌, ◌≤◌, ◌||◌, ◌++◌, ℕ, Bool, true, false, List, [], Option, Some, None, IfSome, filter, if◌then◌else◌, length, slice_get, refl, sym, ap, ap₂, subst, arith}
 use Rattle.std.proofs.Math.Logic.{∥∥₁_map}
 use Rattle.vio_num.specs.declared.history.Grant.{Grant}

@@ -107,7 +107,10 @@ pub mod Ordering
 pub mod OwnLines
 pub mod PairNames
 pub mod Parts
+pub mod PlainAnswerRows
 pub mod PlainAnswered
+pub mod PlainAnswers
+pub mod PlainAreLaid
 pub mod PlainAside
 pub mod PlainAsking
 pub mod PlainAsks
@@ -129,6 +132,8 @@ pub mod PlainEntries
 pub mod PlainFailing
 pub mod PlainFails
 pub mod PlainFinds
+pub mod PlainFits
+pub mod PlainFitting
 pub mod PlainGrants
 pub mod PlainGiven
 pub mod PlainIdles
@@ -136,6 +141,7 @@ pub mod PlainJudged
 pub mod PlainKeeps
 pub mod PlainLaid
 pub mod PlainLeaves
+pub mod PlainLengths
 pub mod PlainLists
 pub mod PlainLogin
 pub mod PlainLogins
@@ -146,6 +152,8 @@ pub mod PlainLooks
 pub mod PlainMeets
 pub mod PlainMiddle
 pub mod PlainMids
+pub mod PlainNotes
+pub mod PlainNotesKept
 pub mod PlainOldest
 pub mod PlainOpened
 pub mod PlainOpens
@@ -161,6 +169,7 @@ pub mod PlainPlaces
 pub mod PlainPuts
 pub mod PlainReady
 pub mod PlainRefused
+pub mod PlainRejected
 pub mod PlainRejects
 pub mod PlainReplayed
 pub mod PlainRequests
@@ -179,6 +188,7 @@ pub mod PlainSending
 pub mod PlainSent
 pub mod PlainServed
 pub mod PlainShares
+pub mod PlainSizes
 pub mod PlainSlots
 pub mod PlainSpared
 pub mod PlainStands
@@ -190,6 +200,7 @@ pub mod PlainTables
 pub mod PlainTags
 pub mod PlainTakes
 pub mod PlainTaking
+pub mod PlainTellings
 pub mod PlainTells
 pub mod PlainThrough
 pub mod PlainTold
@@ -199,6 +210,7 @@ pub mod PlainTurning
 pub mod PlainTurns
 pub mod PlainUnits
 pub mod PlainUnsent
+pub mod PlainUnserved
 pub mod PlainWalks
 pub mod PortAddresses
 pub mod PortAmong

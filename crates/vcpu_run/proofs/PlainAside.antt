@@ -30,12 +30,13 @@ use Rattle.vscsi_client.specs.declared.TheConstants.{DATA_START}
 use Rattle.vscsi_client.specs.declared.outgoing.Outgoing.{Outgoing}
 use Rattle.vscsi_client.specs.declared.outgoing.Span.{Span}
 use Rattle.vcpu_run.specs.PlainClients.{keeps_own}
-use Rattle.vcpu_run.specs.PlainSteps.{AreReplayedAs, FollowsReplay, HasCome, HasToDo, IsAsReplayed, IsReplayedAs, Own, SparesTables, StepsOn, StepsPlainly, beside}
+use Rattle.vcpu_run.specs.PlainSteps.{AreReplayedAs, FollowsReplay, HasCome, HasToDo, IsAsReplayed, IsReplayedAs, Own, SparesTables, StepsOn, StepsPlainly, beside, StepTells}
 use Rattle.vcpu_run.specs.PlainTalk.{Between, IsOwnEntry, IsOwnWindow, KeepsTables, KeepsSlots, ServerStays, TalksPlainly, awaited, name_of, owes}
 use Rattle.vcpu_run.specs.Replay.{Asked as Replayed, Replay, after_line, any_share, ends_as, range, share_page}
 use Rattle.vcpu_run.specs.declared.script.Progress.{Progress}
 use Rattle.vcpu_run.proofs.PlainAsking.{follows_still, none_anew}
 use Rattle.vcpu_run.proofs.PlainData.{data_same, span_data}
+use Rattle.vcpu_run.proofs.PlainNotes.{notes_same}
 use Rattle.vcpu_run.proofs.PlainOwed.{plain_none, told_idle}
 use Rattle.vcpu_run.proofs.PlainPages.{shown_on}
 use Rattle.vcpu_run.proofs.PlainPuts.{LeavesWindow, both_true}
@@ -44,6 +45,9 @@ use Rattle.vcpu_run.proofs.PlainSlots.{behind_apart, slot_on, write_keeps}
 use Rattle.vcpu_run.proofs.PlainStands.{IsOnPage, shown_stand, stand_shown}
 use Rattle.vcpu_run.proofs.PlainStays.{laid_own}
 use Rattle.vcpu_run.proofs.PlainStill.{all_true, awaited_spared, plainly_still, reads_data, reads_leave}
+use Rattle.unit_region.specs.RegionLines.{IsOn}
+use Rattle.vio_num.specs.declared.names.UnitId.{UnitId}
+use Rattle.vcpu_run.specs.PlainRejected.{TellsRejection}
 
 -- The replay says nothing of a line, and is what it was behind it.
 pub record IsUntold (verb : Verb) : Type 0 where
@@ -51,21 +55,22 @@ pub record IsUntold (verb : Verb) : Type 0 where
   pub goes : (granted : ℕ) (p : Progress) (now : Replay) (at : Between) → FollowsReplay granted now at → HasCome granted verb p now at
   pub ends : (granted pages : ℕ) (now : Replay) → ends_as granted pages now verb ≡ None
   pub after : (granted pages : ℕ) (now : Replay) → after_line granted pages now verb ≡ now
+  pub tells : (outcome : Outcome) (who : UnitId) (strokes : ℕ → Option (List StrokeValue)) → TellsRejection verb outcome who strokes
 
 pub fill_untold : (at len seed : ℕ) → IsUntold (verbs.Fill at len seed)
-fill_untold at len seed = record { come = λ granted p now between come. come; goes = λ granted p now between come. come; ends = λ granted pages now. refl; after = λ granted pages now. refl }
+fill_untold at len seed = record { come = λ granted p now between come. come; goes = λ granted p now between come. come; ends = λ granted pages now. refl; after = λ granted pages now. refl; tells = λ outcome who strokes. tt }
 
 pub poke_untold : (at : ℕ) (bytes : List ℕ) → IsUntold (verbs.Poke at bytes)
-poke_untold at bytes = record { come = λ granted p now between come. come; goes = λ granted p now between come. come; ends = λ granted pages now. refl; after = λ granted pages now. refl }
+poke_untold at bytes = record { come = λ granted p now between come. come; goes = λ granted p now between come. come; ends = λ granted pages now. refl; after = λ granted pages now. refl; tells = λ outcome who strokes. tt }
 
 pub peek_untold : (at len : ℕ) → IsUntold (verbs.Peek at len)
-peek_untold at len = record { come = λ granted p now between come. come; goes = λ granted p now between come. come; ends = λ granted pages now. refl; after = λ granted pages now. refl }
+peek_untold at len = record { come = λ granted p now between come. come; goes = λ granted p now between come. come; ends = λ granted pages now. refl; after = λ granted pages now. refl; tells = λ outcome who strokes. tt }
 
 pub data_untold : (tag : ℕ) → IsUntold (verbs.Data tag)
-data_untold tag = record { come = λ granted p now between come. come; goes = λ granted p now between come. come; ends = λ granted pages now. refl; after = λ granted pages now. refl }
+data_untold tag = record { come = λ granted p now between come. come; goes = λ granted p now between come. come; ends = λ granted pages now. refl; after = λ granted pages now. refl; tells = λ outcome who strokes. tt }
 
 pub tce_untold : (entry page : ℕ) (readable writable : Bool) → IsUntold (verbs.Tce entry page readable writable)
-tce_untold entry page readable writable = record { come = λ granted p now between come. come; goes = λ granted p now between come. come; ends = λ granted pages now. refl; after = λ granted pages now. refl }
+tce_untold entry page readable writable = record { come = λ granted p now between come. come; goes = λ granted p now between come. come; ends = λ granted pages now. refl; after = λ granted pages now. refl; tells = λ outcome who strokes. tt }
 
 -- The slots are as they were, and the tables of what is spared.
 pub record LeavesSpared (spared : Outgoing → Type 0) (old new : PortState) : Type 0 where
@@ -74,17 +79,19 @@ pub record LeavesSpared (spared : Outgoing → Type 0) (old new : PortState) : T
 
 -- the client and its end are as they were, and so are the slots, and the tables of all that is outstanding
 pub untold_on : (spared : Outgoing → Type 0) (verb : Verb) (p p' : Progress) (old new : Own) (result : Result Step NoMemory) → IsUntold verb → IsPlain result → new.client ≡ old.client
-    → new.end ≡ old.end → ((granted : ℕ) (now : Replay) (at : Between) → at.client ≡ old.client → SparesTables verb now → FollowsReplay granted now at → All spared (awaited at.client))
+    → new.answers ≡ old.answers → new.end ≡ old.end → ((granted : ℕ) (now : Replay) (at : Between) → at.client ≡ old.client → SparesTables verb now → FollowsReplay granted now at → All spared (awaited at.client))
     → IfOk result (λ step. IsOwnWindow old.window → LeavesSpared spared old.window new.window)
     → (granted : ℕ) (unit : Unit) (server server' : EndState) (now : Replay) → SparesTables verb now → ServerStays (beside unit server old) (beside unit server' new)
-    → TalksPlainly granted (beside unit server old) [] → HasCome granted verb p now (beside unit server old) → IfOk result (StepsOn granted verb p' now (length old.client.rows) (owes (beside unit server old) []) (beside unit server' new))
-untold_on spared verb p p' old new (Err memory) untold plain client end all leaves granted unit server server' now spares stays talks come = tt
-untold_on spared verb p p' old new (Ok step) untold plain client end all leaves granted unit server server' now spares stays talks come = record {
+    → TalksPlainly granted (beside unit server old) [] → HasCome granted verb p now (beside unit server old) → IfOk result (StepsOn granted verb p' now (length old.client.rows) (owes (beside unit server old) []) old.answers new.answers (beside unit server' new))
+untold_on spared verb p p' old new (Err memory) untold plain client noted end all leaves granted unit server server' now spares stays talks come = tt
+untold_on spared verb p p' old new (Ok step) untold plain client noted end all leaves granted unit server server' now spares stays talks come = record {
   words = [];
   anew = none_anew old.client new.client (ap (λ (s : ClientState). length s.rows) client);
   talks = talks';
   replayed = by step;
   told = told_idle granted (owes at []) at' [] step talks' follows.login (plain_none step plain);
+  laid = tells step;
+  noted = notes_same new.window.place.unit new.window.strokes old.answers new.answers noted;
 }
   where
     at : Between
@@ -113,6 +120,10 @@ untold_on spared verb p p' old new (Ok step) untold plain client end all leaves 
       tables = (leaves talks.calm.usable).tables;
     })
 
+    tells : (step : Step) → StepTells verb step at'.unit.id at'.window.strokes
+    tells (steps.Ends outcome) = untold.tells outcome at'.unit.id at'.window.strokes
+    tells (steps.Waits did) = tt
+
     by : (step : Step) → IsAsReplayed granted verb p' now at' [] step
     by (steps.Ends outcome) = (
       subst (λ (o : Option Outcome). IfSome o (λ said. outcome ≡ said)) (sym (untold.ends granted at'.window.place.size now)) tt,
@@ -125,15 +136,19 @@ untold_on spared verb p p' old new (Ok step) untold plain client end all leaves 
 
 -- ---- what the line leaves of the window
 
-still_leaves : (old new : PortState) → IsOwnWindow old → IsOwnWindow new → ((p : ℕ) → new.strokes p ≡ old.strokes p) → LeavesWindow (λ slot. ⊤) old new
-still_leaves old new own own' same = record { own = own'; keeps = keeps }
+still_leaves : (old new : PortState) → IsOwnWindow old → IsOwnWindow new → new.place ≡ old.place → ((p : ℕ) → new.strokes p ≡ old.strokes p) → LeavesWindow (λ slot. ⊤) old new
+still_leaves old new own own' place same = record { own = own'; keeps = keeps }
   where
     keeps : KeepsSlots (λ slot. ⊤) old new
-    keeps slot bytes within spares whole stand =
-        let on : IsOnPage old (slot_address slot) (length bytes) = slot_on old own slot (length bytes) within (omega (arith, whole)) (omega (arith, whole)) in
-        shown_stand new own' (slot_address slot) bytes (slot_on new own' slot (length bytes) within (omega (arith, whole)) (omega (arith, whole)))
-        (ap (λ (now : Option (List StrokeValue)). shown_on now (slot_address slot % 4096) (length bytes)) (same (slot_address slot / 4096))
-        ∙ stand_shown old own (slot_address slot) bytes on stand)
+    keeps = record {
+      strokes = λ page stroke is. subst (IsOn stroke) (sym (same page)) is;
+      unit = ap (λ place. place.unit) place;
+      slots = λ slot bytes within spares whole stand.
+          let on : IsOnPage old (slot_address slot) (length bytes) = slot_on old own slot (length bytes) within (omega (arith, whole)) (omega (arith, whole)) in
+          shown_stand new own' (slot_address slot) bytes (slot_on new own' slot (length bytes) within (omega (arith, whole)) (omega (arith, whole)))
+          (ap (λ (now : Option (List StrokeValue)). shown_on now (slot_address slot % 4096) (length bytes)) (same (slot_address slot / 4096))
+          ∙ stand_shown old own (slot_address slot) bytes on stand);
+    }
 
 -- the window is still its owner's own, where each of its entries is
 entries_own : (old new : PortState) → IsOwnWindow old → new.place ≡ old.place → ((p : ℕ) → new.strokes p ≡ old.strokes p) → ((e : ℕ) → IsOwnEntry e (new.values e)) → IsOwnWindow new
@@ -147,7 +162,7 @@ entries_own old new own place same entries = record {
 same_leaves : (old new : PortState) → IsOwnWindow old → OnlyWrites old new → ((p : ℕ) → new.strokes p ≡ old.strokes p) → LeavesWindow (λ slot. ⊤) old new
 same_leaves old new own only same =
     still_leaves old new own
-    (entries_own old new own only.place same (λ e. subst (IsOwnEntry e) (sym (ap (λ (values : ℕ → List ℕ). values e) only.values)) (own.values e))) same
+    (entries_own old new own only.place same (λ e. subst (IsOwnEntry e) (sym (ap (λ (values : ℕ → List ℕ). values e) only.values)) (own.values e))) only.place same
 
 none_laid : (strokes : Option (List StrokeValue)) → with_strokes strokes [] ≡ strokes
 none_laid None = refl
@@ -258,7 +273,7 @@ put_leaves : (entry page : ℕ) (readable writable : Bool) (old new : PortState)
 put_leaves entry page readable writable old new (Err memory) keeps place same answers = tt
 put_leaves entry page readable writable old new (Ok step) keeps place same answer = λ own. record {
   slots = still_leaves old new own
-      (entries_own old new own place same (λ e. entry_put entry page e readable writable old new step keeps answer (own.values e))) same;
+      (entries_own old new own place same (λ e. entry_put entry page e readable writable old new step keeps answer (own.values e))) place same;
   tables = λ ask spares its. data_same old new same ask tt its;
 }
 
@@ -296,45 +311,45 @@ awaited_off at len granted now between all follows =
 
 -- ---- each of these lines
 
-pub data_plainly : (own_shared : Bool) (tag : ℕ) (p : Progress) (old new : Own) (result : Result Step NoMemory) → own_shared ≡ false → IsPlain result → new.client ≡ old.client → new.end ≡ old.end
+pub data_plainly : (own_shared : Bool) (tag : ℕ) (p : Progress) (old new : Own) (result : Result Step NoMemory) → own_shared ≡ false → IsPlain result → new.client ≡ old.client → new.answers ≡ old.answers → new.end ≡ old.end
     → OnlyReads own_shared old.window new.window → StepsPlainly (verbs.Data tag) p p old new result
-data_plainly own_shared tag p old new result alone grants_none client end reads = λ plain.
-    untold_on (λ o. ⊤) (verbs.Data tag) p p old new result (data_untold tag) grants_none client end (λ granted now at same spares follows. all_true (awaited at.client))
+data_plainly own_shared tag p old new result alone grants_none client noted end reads = λ plain.
+    untold_on (λ o. ⊤) (verbs.Data tag) p p old new result (data_untold tag) grants_none client noted end (λ granted now at same spares follows. all_true (awaited at.client))
     (read_leaves own_shared old.window new.window result alone reads)
 
-pub data_steps : (own_shared : Bool) (tag : ℕ) (p : Progress) (old new : Own) (step : Step) → own_shared ≡ false → IsPlainStep step → new.client ≡ old.client → new.end ≡ old.end
+pub data_steps : (own_shared : Bool) (tag : ℕ) (p : Progress) (old new : Own) (step : Step) → own_shared ≡ false → IsPlainStep step → new.client ≡ old.client → new.answers ≡ old.answers → new.end ≡ old.end
     → OnlyReads own_shared old.window new.window → StepsPlainly (verbs.Data tag) p p old new (Ok step)
 data_steps own_shared tag p old new step = data_plainly own_shared tag p old new (Ok step)
 
 pub peek_plainly : (own_shared : Bool) (at len : ℕ) (p : Progress) (old new : Own) (result : Result Step NoMemory) → own_shared ≡ false → IsPlain result → new.client ≡ old.client
-    → new.end ≡ old.end → OnlyReads own_shared old.window new.window → StepsPlainly (verbs.Peek at len) p p old new result
-peek_plainly own_shared at len p old new result alone grants_none client end reads = λ plain.
-    untold_on (λ o. ⊤) (verbs.Peek at len) p p old new result (peek_untold at len) grants_none client end (λ granted now between same spares follows. all_true (awaited between.client))
+    → new.answers ≡ old.answers → new.end ≡ old.end → OnlyReads own_shared old.window new.window → StepsPlainly (verbs.Peek at len) p p old new result
+peek_plainly own_shared at len p old new result alone grants_none client noted end reads = λ plain.
+    untold_on (λ o. ⊤) (verbs.Peek at len) p p old new result (peek_untold at len) grants_none client noted end (λ granted now between same spares follows. all_true (awaited between.client))
     (read_leaves own_shared old.window new.window result alone reads)
 
 pub poke_plainly : (own_shared : Bool) (at line : ℕ) (bytes : List ℕ) (p : Progress) (old new : Own) (result : Result Step NoMemory) → own_shared ≡ false → IsPlain result
-    → new.client ≡ old.client → new.end ≡ old.end → OnlyWrites old.window new.window → LaysJust own_shared old.window new.window line (Some (record { at = at; bytes = bytes })) result
+    → new.client ≡ old.client → new.answers ≡ old.answers → new.end ≡ old.end → OnlyWrites old.window new.window → LaysJust own_shared old.window new.window line (Some (record { at = at; bytes = bytes })) result
     → IfOk result (AnswersWrite own_shared old.window new.window at bytes line) → StepsPlainly (verbs.Poke at bytes) p p old new result
-poke_plainly own_shared at line bytes p old new result alone grants_none client end only lays answers = λ plain.
-    untold_on (OffTable at (length bytes)) (verbs.Poke at bytes) p p old new result (poke_untold at bytes) grants_none client end
+poke_plainly own_shared at line bytes p old new result alone grants_none client noted end only lays answers = λ plain.
+    untold_on (OffTable at (length bytes)) (verbs.Poke at bytes) p p old new result (poke_untold at bytes) grants_none client noted end
     (λ granted now between same spares follows. awaited_off at (length bytes) granted now between spares follows)
     (write_leaves own_shared old.window new.window at line bytes result alone plain.behind only lays answers)
 
 pub fill_plainly : (own_shared : Bool) (at len seed line : ℕ) (p : Progress) (old new : Own) (result : Result Step NoMemory) → own_shared ≡ false → IsPlain result
-    → new.client ≡ old.client → new.end ≡ old.end → OnlyWrites old.window new.window
+    → new.client ≡ old.client → new.answers ≡ old.answers → new.end ≡ old.end → OnlyWrites old.window new.window
     → LaysJust own_shared old.window new.window line (Some (record { at = at; bytes = filling seed len })) result
     → IfOk result (AnswersWrite own_shared old.window new.window at (filling seed len) line) → StepsPlainly (verbs.Fill at len seed) p p old new result
-fill_plainly own_shared at len seed line p old new result alone grants_none client end only lays answers = λ plain.
-    untold_on (OffTable at (length (filling seed len))) (verbs.Fill at len seed) p p old new result (fill_untold at len seed) grants_none client end
+fill_plainly own_shared at len seed line p old new result alone grants_none client noted end only lays answers = λ plain.
+    untold_on (OffTable at (length (filling seed len))) (verbs.Fill at len seed) p p old new result (fill_untold at len seed) grants_none client noted end
     (λ granted now between same spares follows.
     subst (λ (n : ℕ). All (OffTable at n) (awaited between.client)) (sym (filled_long seed len)) (awaited_off at len granted now between spares follows))
     (write_leaves own_shared old.window new.window at line (filling seed len) result alone plain.behind only lays answers)
 
 pub tce_plainly : (own_shared : Bool) (entry page : ℕ) (readable writable : Bool) (p : Progress) (old new : Own) (result : Result Step NoMemory) → own_shared ≡ false → IsPlain result
-    → new.client ≡ old.client → new.end ≡ old.end → new.window.place ≡ old.window.place → LaysNoStroke own_shared old.window new.window
+    → new.client ≡ old.client → new.answers ≡ old.answers → new.end ≡ old.end → new.window.place ≡ old.window.place → LaysNoStroke own_shared old.window new.window
     → IfOk result (AnswersPut old.window new.window entry (tce_of page readable writable)) → StepsPlainly (verbs.Tce entry page readable writable) p p old new result
-tce_plainly own_shared entry page readable writable p old new result alone grants_none client end place none answers = λ plain.
-    untold_on (λ o. ⊤) (verbs.Tce entry page readable writable) p p old new result (tce_untold entry page readable writable) grants_none client end
+tce_plainly own_shared entry page readable writable p old new result alone grants_none client noted end place none answers = λ plain.
+    untold_on (λ o. ⊤) (verbs.Tce entry page readable writable) p p old new result (tce_untold entry page readable writable) grants_none client noted end
     (λ granted now at same spares follows. all_true (awaited at.client))
     (put_leaves entry page readable writable old.window new.window result plain.own_entry place (none alone) answers)
 

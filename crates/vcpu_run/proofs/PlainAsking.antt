@@ -10,6 +10,7 @@ use Rattle.unit_region.specs.declared.step.Step.{Step}
 use Rattle.unit_region.specs.declared.step.Step.TheVariants as steps
 use Rattle.vio_trace.specs.declared.outcome.Outcome.{Outcome}
 use Rattle.vio_trace.specs.declared.outcome.Outcome.TheVariants as outcomes
+use Rattle.vio_trace.specs.declared.rows.AnswerRow.{AnswerRow}
 use Rattle.vscsi_client.specs.State.{ClientState, next_tag}
 use Rattle.vscsi_client.specs.declared.answers.Refused.{Refused}
 use Rattle.vscsi_client.specs.declared.answers.Refused.TheVariants as whys
@@ -19,11 +20,16 @@ use Rattle.vcpu_run.specs.PlainTalk.{Between, InPhase, IsOwnWindow, ServerStays,
 use Rattle.vcpu_run.specs.Replay.{Replay, after_line, ends_as, left_unless, sent_unless}
 use Rattle.vcpu_run.specs.Sendings.{SaysSent, SaysWhy, says_as}
 use Rattle.vcpu_run.specs.declared.script.Progress.{Progress}
+use Rattle.vcpu_run.proofs.PlainNotes.{notes_same}
 use Rattle.vcpu_run.proofs.PlainOwed.{one_if, told_idle}
 use Rattle.vcpu_run.proofs.PlainRefused.{KnowsCredits, says_of}
 use Rattle.vcpu_run.proofs.PlainSlots.{keeps_same}
 use Rattle.vcpu_run.proofs.PlainStill.{plainly_still, all_true}
 use Rattle.vcpu_run.proofs.PlainData.{data_kept}
+use Rattle.vio_num.specs.declared.names.UnitId.{UnitId}
+use Rattle.page_slots.specs.Stroke.{StrokeValue}
+use Rattle.boot_text.specs.declared.verb.Verb.TheVariants as verbs
+use Rattle.vcpu_run.specs.PlainRejected.{IsOfRejection, TellsRejection}
 
 -- ---- what the client knows is what the replay knows
 
@@ -123,27 +129,48 @@ refused_none (whys.Closed control) = refl
 refused_none (whys.Dropped number held) = refl
 refused_none whys.NoMemory = tt
 
-pub asks_on : (granted : ℕ) (verb : Verb) (p : Progress) (now sent : Replay) (at at' : Between) (why : Option Refused) (answer : Result ℕ Refused) (result : Result Step NoMemory)
-    → SendsUnless granted at.window.place.size verb now (says_of why) sent → TalksPlainly granted at [] → FollowsReplay granted now at → ServerStays at at'
+-- nor does it say that one was rejected
+refused_no : (why : Refused) → IfSome (says_as why) (λ said. (who : UnitId) (strokes : ℕ → Option (List StrokeValue)) → IsOfRejection said who strokes)
+refused_no whys.Range = λ who strokes. tt
+refused_no whys.NotLoggedIn = λ who strokes. tt
+refused_no (whys.NoCredit limit) = λ who strokes. tt
+refused_no (whys.Overlap tag) = λ who strokes. tt
+refused_no (whys.InUse page word) = tt
+refused_no (whys.Closed control) = λ who strokes. tt
+refused_no (whys.Dropped number held) = λ who strokes. tt
+refused_no whys.NoMemory = tt
+
+tells_refused : (verb : Verb) (outcome : Outcome) (who : UnitId) (strokes : ℕ → Option (List StrokeValue))
+    → ((who : UnitId) (strokes : ℕ → Option (List StrokeValue)) → IsOfRejection outcome who strokes) → TellsRejection verb outcome who strokes
+tells_refused verbs.Login outcome who strokes none = none who strokes
+tells_refused verb outcome who strokes none = tt
+
+tells_sent : (verb : Verb) (tag : ℕ) (who : UnitId) (strokes : ℕ → Option (List StrokeValue)) → TellsRejection verb (outcomes.Sent tag) who strokes
+tells_sent verb tag who strokes = tells_refused verb (outcomes.Sent tag) who strokes (λ who strokes. tt)
+
+pub asks_on : (granted : ℕ) (verb : Verb) (p : Progress) (now sent : Replay) (at at' : Between) (before after : List AnswerRow) (why : Option Refused) (answer : Result ℕ Refused) (result : Result Step NoMemory)
+    → after ≡ before → SendsUnless granted at.window.place.size verb now (says_of why) sent → TalksPlainly granted at [] → FollowsReplay granted now at → ServerStays at at'
     → at'.window.place ≡ at.window.place → AsksSo granted now sent at at' why answer → SaysSent answer result → IfErr answer (λ x. SaysWhy x result)
-    → IfErr answer (λ x. x ≡ whys.NoMemory → IsErr result) → IfOk result (StepsOn granted verb p now (length at.client.rows) (owes at []) at')
-asks_on granted verb p now sent at at' why (Ok tag) result ends talks holds stays place asks says reason memory =
-    subst (λ (r : Result Step NoMemory). IfOk r (StepsOn granted verb p now (length at.client.rows) (owes at []) at')) (sym says) (record {
+    → IfErr answer (λ x. x ≡ whys.NoMemory → IsErr result) → IfOk result (StepsOn granted verb p now (length at.client.rows) (owes at []) before after at')
+asks_on granted verb p now sent at at' before after why (Ok tag) result noted ends talks holds stays place asks says reason memory =
+    subst (λ (r : Result Step NoMemory). IfOk r (StepsOn granted verb p now (length at.client.rows) (owes at []) before after at')) (sym says) (record {
       words = went.3;
       talks = went.4;
       anew = went.5;
       told = told_idle granted (owes at []) at' went.3 (steps.Ends (outcomes.Sent tag)) went.4 went.2.login refl;
+      laid = tells_sent verb tag at'.unit.id at'.window.strokes;
+      noted = notes_same at'.window.place.unit at'.window.strokes before after noted;
       replayed = ends_so granted at.window.place.size verb p now None sent at' went.3 (outcomes.Sent tag) (ap (λ place. place.size) place)
           (subst (λ (w : Option Refused). SendsUnless granted at.window.place.size verb now (says_of w) sent) went.0 ends) (ap (λ (n : ℕ). outcomes.Sent n) went.1) went.2;
     })
   where
     went : (why ≡ None) × (tag ≡ now.tag) × FollowsReplay granted sent at' × (words : List Word) × TalksPlainly granted at' words × AsksAnew (length at.client.rows) at'.client words
     went = asks.went tag refl
-asks_on granted verb p now sent at at' why (Err x) result ends talks holds stays place asks says reason memory = by why refl asks.refused
+asks_on granted verb p now sent at at' before after why (Err x) result noted ends talks holds stays place asks says reason memory = by why refl asks.refused
   where
     by : (w : Option Refused) → why ≡ w → IfSome w (λ y. (◌≡◌ {A = Result ℕ Refused} (Err x) (Err y)) × (at'.client ≡ at.client) × (at'.own ≡ at.own) × (at'.window ≡ at.window))
-        → IfOk result (StepsOn granted verb p now (length at.client.rows) (owes at []) at')
-    by None none still = no_ok result (StepsOn granted verb p now (length at.client.rows) (owes at []) at') (memory (asks.unsent x refl none))
+        → IfOk result (StepsOn granted verb p now (length at.client.rows) (owes at []) before after at')
+    by None none still = no_ok result (StepsOn granted verb p now (length at.client.rows) (owes at []) before after at') (memory (asks.unsent x refl none))
     by (Some y) some still = at_result result reason
       where
         same : x ≡ y
@@ -152,12 +179,15 @@ asks_on granted verb p now sent at at' why (Err x) result ends talks holds stays
         still' : TalksPlainly granted at' []
         still' = stood_still at at' granted talks stays still.1 still.2 still.3
 
-        at_result : (r : Result Step NoMemory) → SaysWhy x r → IfOk r (StepsOn granted verb p now (length at.client.rows) (owes at []) at')
+        at_result : (r : Result Step NoMemory) → SaysWhy x r → IfOk r (StepsOn granted verb p now (length at.client.rows) (owes at []) before after at')
         at_result (Ok (steps.Ends outcome)) is = record {
           words = [];
           talks = still';
           told = told_idle granted (owes at []) at' [] (steps.Ends outcome) still' (ap (λ (s : ClientState). s.login) still.1 ∙ holds.login)
               (ap one_if (subst (λ (o : Option Outcome). IfSome o (λ said. grants said ≡ false)) is (refused_none x)));
+          laid = tells_refused verb outcome at'.unit.id at'.window.strokes
+              (subst (λ (o : Option Outcome). IfSome o (λ said. (who : UnitId) (strokes : ℕ → Option (List StrokeValue)) → IsOfRejection said who strokes)) is (refused_no x));
+          noted = notes_same at'.window.place.unit at'.window.strokes before after noted;
           anew = none_anew at.client at'.client (ap (λ (s : ClientState). length s.rows) still.1);
           replayed = ends_so granted at.window.place.size verb p now (Some outcome) sent at' [] outcome (ap (λ place. place.size) place)
               (subst (λ (o : Option Outcome). SendsUnless granted at.window.place.size verb now o sent) (ap says_of some ∙ ap says_as (sym same) ∙ is) ends) refl

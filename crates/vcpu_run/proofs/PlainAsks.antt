@@ -1,5 +1,4 @@
 -- What a task or a command that a plain client sent leaves between it and its server unit.
-use Rattle.std.specs.Prelude.{⊤}
 use Rattle.std.proofs.Common.{◌≡◌, ◌≢◌, ◌∙◌, ◌⊎◌, inl, inr, ℕ, suc, ◌+◌, ◌<◌, ◌≤◌, ◌++◌, ◌&&◌, ◌||◌, ◌==◌, not, nat_le, All, Bool, true, false, true≢false, cond, List, [], ◌∷◌, Option, Some, None, append-nil, append_assoc, is_some, length, length-append, map, min, refl, sym, ap, ap₂, subst, arith}
 use Rattle.std.proofs.lemmas.Bool.{eqb-false}
 use Rattle.std.proofs.lemmas.Bool.Decides.{nat_tests}
@@ -20,6 +19,7 @@ use Rattle.vcpu_run.specs.PlainTalk.{AreApart, CountsAsked, AreInOrder, ArePendi
 use Rattle.vcpu_run.proofs.PlainLists.{counted_no_login, login_push, logout_no_login, logout_not_counted, on_out, rise_push}
 use Rattle.vcpu_run.proofs.PlainServed.{all_kept, answers_move}
 use Rattle.vcpu_run.proofs.PlainStarts.{KeepPlaces, starts_behind}
+use Rattle.vcpu_run.proofs.PlainRejected.{says_move}
 
 -- ---- lists
 
@@ -289,7 +289,7 @@ sends_talk granted at at' asked answers ask calm talk sends = record {
     before = λ no. ap is_some (sends.granted ∙ sends.grants.1) ∙ sym (on_none (nat_le 1 at'.unit.logins.current) (asked.pending ++ ask ∷ []) pending_push_no ∙ on');
     on = λ has. absurd (true≢false (sym has ∙ is.answered_none));
     answer = λ has. absurd (true≢false (sym has ∙ is.answered_none));
-    grant = talk.login.grant;
+    grant = says_move granted at.unit.id at'.unit.id at.window at'.window (ap (λ (u : Unit). u.id) sends.unit) sends.keeps.unit sends.keeps.strokes answers talk.login.grant;
   };
 }
   where
@@ -458,7 +458,7 @@ logs_out granted at at' asked answers ask talk sends = record {
     before = λ no. ap is_some sends.granted ∙ sym (on_out (nat_le 1 at'.unit.logins.current) ask [] sends.is_out);
     on = λ has. absurd (true≢false (sym has));
     answer = λ has. absurd (true≢false (sym has));
-    grant = talk.login.grant;
+    grant = says_move granted at.unit.id at'.unit.id at.window at'.window (ap (λ (u : Unit). u.id) sends.unit) sends.keeps.unit sends.keeps.strokes answers talk.login.grant;
   };
 }
   where

@@ -1,9 +1,12 @@
--- Plain clients of a machine before its first round: each sits at the pair of its server unit, behind that unit's script, and both are as they were made.
-use Rattle.std.proofs.Common.{◌≡◌, ◌≢◌, ◌∙◌, inr, ℕ, ◌<◌, ◌≤◌, true, List, [], IfSome, IsSomeAnd, Option, Some, None, length, slice_get, refl, sym, ap, subst, arith}
+-- Plain clients of a machine before its first round: each sits at the pair of its server unit, behind that unit's script, and both are as
+-- they were made.
+use Rattle.std.proofs.Common.{◌≡◌, ◌≢◌, ◌∙◌, ◌⊎◌, inr, ℕ, ◌<◌, ◌≤◌, true, All, List, [], IfSome, IsSomeAnd, Option, Some, None, length, slice_get, refl, sym, ap, subst, arith}
 use Rattle.std.proofs.lemmas.List.Elements.{All-nil}
 use Rattle.std.proofs.lemmas.Option.{slice_get_within}
 use Rattle.vio_num.specs.declared.history.Grant.{Grant}
+use Rattle.vio_num.specs.declared.history.Served.{Served}
 use Rattle.vio_num.specs.declared.names.UnitId.{UnitId}
+use Rattle.page_slots.specs.Stroke.{StrokeValue}
 use Rattle.block_server.specs.Makers.{same_unit}
 use Rattle.block_server.specs.Receipts.{unit_of as unit_named}
 use Rattle.block_server.specs.Talk.{AreNewUnits, IsNewUnit}
@@ -13,13 +16,13 @@ use Rattle.boot_text.specs.Sound.{IsClientOf, IsServer, unit_in}
 use Rattle.boot_text.specs.declared.plan.Partition.{Partition}
 use Rattle.boot_text.specs.declared.plan.UnitPlan.TheVariants as units
 use Rattle.lan_script.specs.declared.seat.PortSeat.{PortSeat}
-use Rattle.vio_trace.specs.declared.rows.LogRow.{LogRow}
 use Rattle.tce_window.specs.PlainPort.{known_of}
 use Rattle.vcpu_run.specs.Machines.{IsOfPlan, IsScriptFor, home_of, seat_of, server_id}
 use Rattle.vcpu_run.specs.Making.{AreMade, IsMade}
-use Rattle.vcpu_run.specs.Credited.{ended_by}
+use Rattle.vcpu_run.specs.Credited.{ended_by, Ended}
 use Rattle.vcpu_run.specs.PlainClients.{ends_by_client, granted_in}
-use Rattle.vcpu_run.specs.PlainPairs.{IsNewBetween, IsNewPair, IsOpened, IsReadyPair, OpenPlainly, between_of, books_of}
+use Rattle.vcpu_run.specs.PlainNoted.{AreAnswers, AsksFor, IsAnswerOfRow, IsLaidAnswer, IsNoResponse}
+use Rattle.vcpu_run.specs.PlainPairs.{AreBlank, IsNewBetween, IsNewPair, IsOpened, IsReadyPair, OpenPlainly, between_of, books_of}
 use Rattle.vcpu_run.specs.PlainRuns.{ArePlain}
 use Rattle.vcpu_run.specs.PlainScripts.{StandsPlainly, StartsAnew, told_in}
 use Rattle.vcpu_run.specs.Ports.{unit_of}
@@ -36,6 +39,7 @@ use Rattle.vcpu_run.proofs.PlainBorne.{none_borne}
 use Rattle.vcpu_run.proofs.PlainTurning.{none_ended}
 use Rattle.vcpu_run.proofs.Seated.{client_plan}
 use Rattle.vcpu_run.proofs.Settling.{home_serves, no_servers, script_at}
+use Rattle.vcpu_run.specs.PlainRejected.{TellsOf}
 
 -- each script is as it was made
 abbrev pub ScriptsStart : List Script → Type 0
@@ -48,8 +52,8 @@ scripts_start partitions scripts made i script found =
     (is.2.fresh, is.2.plainly)
 
 -- so none of its lines has told anything
-none_told : (u : ℕ) (script : Script) → script.logs.items ≡ [] → told_in u script ≡ 0
-none_told u script fresh = ap (λ (rows : List LogRow). granted_in (ended_by u script.lines.now rows)) fresh ∙ ap granted_in (none_ended u script.lines.now)
+none_told : (u : ℕ) (script : Script) → script.logs.items ≡ [] → told_in u script ≡ []
+none_told u script fresh = ap (ended_by u script.lines.now) fresh ∙ none_ended u script.lines.now
 
 -- The server units are as they were made: each bears its number, and grants so many requests.
 pub record UnitsStart (granted home : ℕ) (list : List Unit) : Type 0 where
@@ -87,7 +91,13 @@ between_new granted unit driver pair made grants most opened = record {
   usable = opened.usable;
 }
 
-pair_new : (granted told home k : ℕ) (list : List Unit) (pair : Pair) (driver : Driver) → told ≡ 0 → UnitsStart granted home list → granted ≤ 200 → k < length list → pair.driver ≡ Some driver
+-- no stroke lies there
+none_answered : (rows : List Served) (own : UnitId) (strokes : ℕ → Option (List StrokeValue)) → AreBlank strokes → AreAnswers rows own strokes
+none_answered rows own strokes blank page front list there =
+    subst (All (λ (stroke : StrokeValue). stroke.name.who ≢ own → IsAnswerOfRow rows stroke ⊎ IsNoResponse stroke)) (sym (blank page list there))
+    (All-nil (λ (stroke : StrokeValue). stroke.name.who ≢ own → IsAnswerOfRow rows stroke ⊎ IsNoResponse stroke))
+
+pair_new : (granted : ℕ) (told : List Ended) (home k : ℕ) (list : List Unit) (pair : Pair) (driver : Driver) → told ≡ [] → UnitsStart granted home list → granted ≤ 200 → k < length list → pair.driver ≡ Some driver
     → driver.unit ≢ server_id home k → IsOpened pair driver → IsNewPair granted told home (books_of list [] []) k pair
 pair_new granted told home k list pair driver none start most less is apart opened =
     let unit = there_is list k less in
@@ -99,12 +109,16 @@ pair_new granted told home k list pair driver none start most less is apart open
       driver_is = is;
       new = between_new granted unit.0 driver pair (new_at (slice_get list k) unit.0 unit.1 (start.made k))
           (all_at (λ (u : Unit). u.logins.granted ≡ granted) list k unit.0 start.granting unit.1) most opened;
-      owed = omega (arith, none);
+      owed = omega (arith, ap granted_in none);
+      laid = subst (All (TellsOf unit.0.id (known_of pair.window).strokes)) (sym none) (All-nil (TellsOf unit.0.id (known_of pair.window).strokes));
       lines = All-nil (λ (line : Grant). same_unit (unit_named line) (server_id home k) ≡ true → ends_by_client line ≡ true);
       tags = refl;
       sent = opened.sent;
       apart = λ same. apart (sym opened.unit ∙ same);
       borne = none_borne [] (server_id home k) driver.client.rows (known_of pair.window).strokes opened.blank;
+      answered = none_answered [] pair.window.unit (known_of pair.window).strokes opened.blank;
+      sized = All-nil (AsksFor driver.client.rows);
+      noted = subst (All (IsLaidAnswer pair.window.unit (known_of pair.window).strokes)) (sym opened.answers) (All-nil (IsLaidAnswer pair.window.unit (known_of pair.window).strokes));
     }
 
 -- the server unit of a plain client

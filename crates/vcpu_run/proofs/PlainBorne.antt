@@ -89,15 +89,22 @@ place_of rows.Login = zero
 place_of rows.Logout = zero
 place_of rows.Task = zero
 
+length_of : Row → ℕ
+length_of (rows.Command dir at len said) = len
+length_of rows.Login = zero
+length_of rows.Logout = zero
+length_of rows.Task = zero
+
 -- where data lie that lay there before is where they lay
-inward_back : (s s' : ClientState) (answers answers' : List AnswerRow) (tag at len : ℕ) → KeepsData s s' answers answers' → AreAsked s.outgoing → tag ≤ length s.rows → IsInwardAt s'.rows tag at len
-    → (len' : ℕ) × IsInwardAt s.rows tag at len'
-unfolding place_of
+pub inward_back : (s s' : ClientState) (answers answers' : List AnswerRow) (tag at len : ℕ) → KeepsData s s' answers answers' → AreAsked s.outgoing → tag ≤ length s.rows → IsInwardAt s'.rows tag at len
+    → IsInwardAt s.rows tag at len
+unfolding place_of length_of
 inward_back s s' answers answers' tag at len keeps asked known is =
     let was = inward_row (row_at s.rows tag) (keeps.kinds asked tag known (ap is_inward is.1)) in
     let now = keeps.rows_stay asked tag was.0 was.1 (was.2, was.3) in
     let same : was.0 ≡ at = ap place_of (sym now.1 ∙ is.1) in
-    (was.1, subst (λ a. IsInwardAt s.rows tag a was.1) same (was.2, was.3))
+    let long : was.1 ≡ len = ap length_of (sym now.1 ∙ is.1) in
+    subst (IsInwardAt s.rows tag at) long (subst (λ a. IsInwardAt s.rows tag a was.1) same (was.2, was.3))
 
 of_turned : (list : List Served) (s s' : ClientState) (answers answers' : List AnswerRow) (page : ℕ) (stroke : StrokeValue) → KeepsData s s' answers answers' → AreAsked s.outgoing
     → IsOfRow list s.rows page stroke → IsOfRow list s'.rows page stroke
@@ -107,8 +114,7 @@ of_turned list s s' answers answers' page stroke keeps asked is = record {
   tag_is = is.tag_is;
   known = omega (arith, is.known, keeps.more);
   lies = λ at len now.
-      let was = inward_back s s' answers answers' stroke.name.mark at len keeps asked is.known now in
-      is.lies at was.0 was.1;
+      is.lies at len (inward_back s s' answers answers' stroke.name.mark at len keeps asked is.known now);
 }
 
 -- the strokes that it laid are its own

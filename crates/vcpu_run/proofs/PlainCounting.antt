@@ -12,7 +12,7 @@ use Rattle.vio_trace.specs.declared.outcome.Outcome.TheVariants as outcomes
 use Rattle.vcpu_run.specs.Credited.{taken_in}
 use Rattle.vscsi_client.specs.State.{tags_of}
 use Rattle.vscsi_client.specs.declared.outgoing.Outgoing.{Outgoing}
-use Rattle.vcpu_run.specs.PlainSteps.{AreReplayedAs, FollowsReplay, HasTaken, HasToDo, LeavesTook, Own, StepsPlainly, TakesEntries, TakesPlainly, beside}
+use Rattle.vcpu_run.specs.PlainSteps.{AreReplayedAs, FollowsReplay, HasTaken, HasToDo, LeavesTook, Own, OwnNotes, StepsPlainly, TakesEntries, TakesPlainly, beside}
 use Rattle.vcpu_run.specs.PlainTalk.{Between, ServerStays, TalksPlainly, owes}
 use Rattle.vcpu_run.specs.Replay.{Asked as Replayed, Replay, answered}
 use Rattle.vcpu_run.specs.declared.script.Progress.{Progress}
@@ -20,6 +20,7 @@ use Rattle.vcpu_run.specs.declared.taking.Took.{Took}
 use Rattle.vcpu_run.specs.declared.taking.Took.TheVariants as tooks
 use Rattle.vcpu_run.proofs.PlainAsking.{follows_still, none_anew, stood_still}
 use Rattle.vcpu_run.proofs.PlainMiddle.{KeptThere, kept_there, seeing}
+use Rattle.vcpu_run.proofs.PlainNotes.{lays_read, notes_same, windows_on}
 use Rattle.vcpu_run.proofs.PlainOwed.{told_idle}
 
 -- What a line that takes so many answers has done in one step, from so many on to so many: as often it took one.
@@ -27,7 +28,7 @@ pub record TakesSoFar (count from to often : ℕ) (old new : Own) : Type 0 where
   pub entries : TakesEntries old.end new.end
   pub leaves : (granted : ℕ) (unit : Unit) (server server' : EndState) (now : Replay) → ServerStays (beside unit server old) (beside unit server' new)
       → TalksPlainly granted (beside unit server old) [] → HasTaken granted count from now (beside unit server old)
-      → TalksPlainly granted (beside unit server' new) [] × HasTaken granted count to now (beside unit server' new) × (to ≡ from + often)
+      → TalksPlainly granted (beside unit server' new) [] × HasTaken granted count to now (beside unit server' new) × (to ≡ from + often) × OwnNotes old new
 
 pub entries_on : (a b c : EndState) → TakesEntries a b → TakesEntries b c → TakesEntries a c
 entries_on a b c first next = record {
@@ -74,7 +75,7 @@ pub record OneMore (count from to often : ℕ) (old middle new : Own) (took : To
   pub entries : TakesEntries old.end new.end
   pub leaves : (granted : ℕ) (unit : Unit) (server server' : EndState) (now : Replay) → ServerStays (beside unit server old) (beside unit server' new)
       → TalksPlainly granted (beside unit server old) [] → HasTaken granted count from now (beside unit server old)
-      → TalksPlainly granted (beside unit server' new) [] × LeavesTook granted (answered to now) took (beside unit server' new) × (to ≤ length now.outstanding) × (to ≡ from + often)
+      → TalksPlainly granted (beside unit server' new) [] × LeavesTook granted (answered to now) took (beside unit server' new) × (to ≤ length now.outstanding) × (to ≡ from + often) × OwnNotes old new
 
 one_on : (count from to often : ℕ) (old middle new : Own) (took : Took) → TakesSoFar count from to often old middle → TakesPlainly took middle new
     → OneMore count from to often old middle new took
@@ -85,17 +86,23 @@ one_on count from to often old middle new took far takes = record {
   where
     leaves : (granted : ℕ) (unit : Unit) (server server' : EndState) (now : Replay) → ServerStays (beside unit server old) (beside unit server' new)
         → TalksPlainly granted (beside unit server old) [] → HasTaken granted count from now (beside unit server old)
-        → TalksPlainly granted (beside unit server' new) [] × LeavesTook granted (answered to now) took (beside unit server' new) × (to ≤ length now.outstanding) × (to ≡ from + often)
-    leaves granted unit server server' now stays talks has = (one.0, one.1, so_far.1.there, so_far.2)
+        → TalksPlainly granted (beside unit server' new) [] × LeavesTook granted (answered to now) took (beside unit server' new) × (to ≤ length now.outstanding) × (to ≡ from + often) × OwnNotes old new
+    leaves granted unit server server' now stays talks has = (
+      one.0,
+      one.1,
+      so_far.1.there,
+      so_far.2,
+      windows_on middle.window new.window old.answers middle.answers new.answers (lays_read middle.window new.window takes.reads) so_far.3 one.2,
+    )
       where
         kept : KeptThere unit server server' old middle new
         kept = kept_there unit server server' old middle new takes.entries stays
 
         so_far : TalksPlainly granted (beside unit (seeing server' middle.end) middle) [] × HasTaken granted count to now (beside unit (seeing server' middle.end) middle)
-            × (to ≡ from + often)
+            × (to ≡ from + often) × OwnNotes old middle
         so_far = far.leaves granted unit server (seeing server' middle.end) now kept.before talks has
 
-        one : TalksPlainly granted (beside unit server' new) [] × LeavesTook granted (answered to now) took (beside unit server' new)
+        one : TalksPlainly granted (beside unit server' new) [] × LeavesTook granted (answered to now) took (beside unit server' new) × OwnNotes middle new
         one = takes.leaves granted unit (seeing server' middle.end) server' (answered to now) kept.behind so_far.0 so_far.1.left
 
 -- an answer
@@ -112,6 +119,7 @@ one_more count from to often old middle new less far takes = record {
           left = subst (λ (list : List Replayed). FollowsReplay granted (record now { outstanding = list }) (beside unit server' new)) (drop_one to now.outstanding ∙ ap (λ (n : ℕ). drop n now.outstanding) (one_behind to)) left.1.1;
         },
         omega (arith, left.3),
+        left.4,
       );
 }
   where
@@ -146,6 +154,8 @@ ends_full count from to often p p' old new is enough far = λ plain granted unit
       talks = left.0;
       anew = none_anew old.client new.client (same_rows granted _ _ (beside unit server old) (beside unit server' new) refl come.left left.1.left);
       told = told_idle granted (owes (beside unit server old) []) (beside unit server' new) [] (steps.Ends (outcomes.Took to)) left.0 left.1.left.login refl;
+      laid = tt;
+      noted = left.3;
       replayed = (
         ap outcomes.Took (omega (arith, enough, left.1.wanted, left.1.there)),
         subst (λ (n : ℕ). FollowsReplay granted (answered n now) (beside unit server' new)) (omega (arith, enough, left.1.wanted)) left.1.left,
@@ -186,6 +196,7 @@ none_yet count from old = record {
       left = follows_still granted (answered from now) (beside unit server old) (beside unit server' old) has.left refl refl;
     },
     omega arith,
+    notes_same old.window.place.unit old.window.strokes old.answers old.answers refl,
   );
 }
 
@@ -233,6 +244,8 @@ ends_none count from to often tags p p' old middle new is less tags_are none far
       talks = left.0;
       anew = none_anew old.client new.client (same_rows granted _ _ (beside unit server old) (beside unit server' new) refl come.left left.1.0);
       told = told_idle granted (owes (beside unit server old) []) (beside unit server' new) [] (steps.Ends (outcomes.Took to)) left.0 left.1.0.login refl;
+      laid = tt;
+      noted = left.4;
       replayed = (
         ap outcomes.Took (omega (arith, less, long, left.2)),
         subst (λ (list : List Replayed). FollowsReplay granted (record now { outstanding = list }) (beside unit server' new))
@@ -252,6 +265,8 @@ waits_none count from to often tags p p' did old middle new is is' less tags_are
       talks = left.0;
       anew = none_anew old.client new.client (same_rows granted _ _ (beside unit server old) (beside unit server' new) refl come.left left.1.0);
       told = told_idle granted (owes (beside unit server old) []) (beside unit server' new) [] (steps.Waits did) left.0 left.1.0.login refl;
+      laid = tt;
+      noted = left.4;
       replayed = (
         subst (λ (n : ℕ). HasTaken granted count n now (beside unit server' new)) (sym is') (record { wanted = omega (arith, less); there = left.2; left = left.1.0 }),
         by granted unit server' now left.1.1 left.1.0,

@@ -1,5 +1,5 @@
--- What a plain client's region shows where the data of a command lie, if the last strokes there are of its server unit under the command's tag: the first
--- bytes of the data-in of the row with that tag.
+-- What a plain client's region shows where the data of a command lie, if the last strokes there are of its server unit under the command's
+-- tag: the first bytes of the data-in of the row with that tag.
 use Rattle.std.proofs.Common.{◌≡◌, ◌≢◌, ◌∙◌, ◌++◌, ◌+◌, ◌-◌, ◌*◌, ◌/◌, ◌<◌, ◌≤◌, ◌∷◌, ℕ, All, true, Contains, List, [], Option, Some, None, length, map, refl, sym, ap, subst, arith}
 use Rattle.std.proofs.lemmas.Bool.Decides.{nat_tests}
 use Rattle.std.proofs.lemmas.List.Elements.{All-weaker}

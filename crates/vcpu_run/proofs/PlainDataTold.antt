@@ -1,8 +1,10 @@
--- What a plain client's lines say of the data of a command: a row of its server unit has the command's tag, and the sum is that of the first of the row's
--- data-in.
-use Rattle.std.proofs.Common.{◌≡◌, ◌∙◌, ◌⊎◌, ◌++◌, ◌==◌, ◌+◌, ◌*◌, ◌≤◌, ◌&&◌, inl, inr, ℕ, All, Bool, true, false, true≢false, cond, length, nat_le, not, Contains, filter, IfSome, List, [], ◌∷◌, Option, Some, None, map, refl, sym, ap, subst, arith}
+-- What a plain client's lines say of the data of a command: a row of its server unit has the command's tag, and the length and the sum are
+-- those of the row's data-in.
+use Rattle.std.proofs.Common.{◌≡◌, ◌∙◌, ◌⊎◌, ◌++◌, ◌==◌, ◌+◌, ◌*◌, ◌≤◌, ◌&&◌, inl, inr, ℕ, All, Bool, true, false, true≢false, cond, length, nat_le, not, Contains, filter, IfSome, List, [], ◌∷◌, Option, Some, None, map, take, refl, sym, ap, subst, arith}
 use Rattle.std.proofs.lemmas.Bool.Decides.{nat_tests}
+use Rattle.std.proofs.lemmas.List.{take_all}
 use Rattle.std.proofs.lemmas.List.Elements.{All-cons, All-head, All-nil, All-tail, Contains-append_left}
+use Rattle.std.specs.List.{sum}
 use Rattle.vio_num.specs.Entry.{is_srp_entry}
 use Rattle.vio_num.specs.Queue.{Handed}
 use Rattle.vio_num.specs.declared.entry.Entry.{Entry}
@@ -11,6 +13,7 @@ use Rattle.vio_num.specs.declared.names.UnitId.{UnitId}
 use Rattle.crq_ring.specs.Pipe.{IsLawfulPipe, PipeValue}
 use Rattle.crq_ring.specs.Sessions.{of_session}
 use Rattle.crq_ring.specs.declared.rows.PipeRow.{PipeRow}
+use Rattle.page_slots.specs.Stroke.{StrokeValue}
 use Rattle.page_slots.specs.declared.stroke.StrokeName.{StrokeName}
 use Rattle.boot_text.specs.declared.verb.Verb.{Verb}
 use Rattle.boot_text.specs.declared.verb.Verb.TheVariants as verbs
@@ -37,6 +40,7 @@ use Rattle.vcpu_run.specs.Sessions.{entries_of}
 use Rattle.vcpu_run.specs.TagRows.{is_inward, row_at}
 use Rattle.vcpu_run.proofs.AnswersShown.{contains_map}
 use Rattle.vcpu_run.proofs.LinesShown.{all_has, behind_first, contains_first, first_or, in_session, no_element}
+use Rattle.vcpu_run.proofs.PlainAnswerRows.{KnowsAnswers, no_more}
 use Rattle.vcpu_run.proofs.PlainSums.{BearAll, sums_first}
 use Rattle.vcpu_run.proofs.PlainTags.{same_one}
 
@@ -88,7 +92,7 @@ session_entries : (q : ℕ) (rows : List PipeRow) → of_session q rows ≡ entr
 unfolding of_session
 session_entries q rows = refl
 
-taken_as : (P : Entry → Type 0) (pipe : PipeValue) → IsLawfulPipe pipe → All (λ (row : PipeRow). P row.entry) pipe.sent → (row : PipeRow) → Contains pipe.taken row → P row.entry
+pub taken_as : (P : Entry → Type 0) (pipe : PipeValue) → IsLawfulPipe pipe → All (λ (row : PipeRow). P row.entry) pipe.sent → (row : PipeRow) → Contains pipe.taken row → P row.entry
 taken_as P pipe laws all row there =
     let handed : Handed (of_session row.session pipe.sent) (of_session row.session pipe.taken) pipe.slots = laws.handed row.session in
     let own : Contains (of_session row.session pipe.taken) row.entry =
@@ -121,7 +125,7 @@ row_noted pipe answers kept tags rs tag laws among put noted inward =
     subst (Contains tags) entry.made (answer.row entry.passes (subst (λ t. is_inward (row_at rs t) ≡ true) (sym entry.made) inward))
 
 -- what passes a test is among those that do
-contains_filter : {X : Type 0} (p : X → Bool) (xs : List X) (x : X) → p x ≡ true → Contains xs x → Contains (filter p xs) x
+pub contains_filter : {X : Type 0} (p : X → Bool) (xs : List X) (x : X) → p x ≡ true → Contains xs x → Contains (filter p xs) x
 contains_filter p [] x passes has = absurd (no_element x has)
 contains_filter p (first ∷ xs) x passes has = at (contains_filter p xs x passes) (p first) refl (first_or first x xs has)
   where
@@ -220,15 +224,19 @@ sent_behind granted pages now (first ∷ own) replayed e has tag range sent is =
 
 -- ---- the rows
 
+-- where no more are there than are summed up
+whole_sum : (len total : ℕ) (inn : List ℕ) → (len ≤ length inn) × (total ≡ sum (take len inn)) → length inn ≤ len → (len ≡ length inn) × (total ≡ sum inn)
+whole_sum len total inn first most = (omega (arith, first.0, most), first.1 ∙ ap sum (take_all len inn most))
+
 -- The strokes under the tag of a row bear its data-in, where the client's command of the tag has its data.
 abbrev pub BearRows : Seen → (server unit : UnitId) → (rows : List Served) → List Row → Type 0
 BearRows seen server unit rows rs = (tag len : ℕ) (range : DataRange) (row : Served) → IsInwardAt rs tag range.at len → DATA_START ≤ range.at → Contains (rows_by unit rows) row
     → row_tag row ≡ tag → BearAll seen (record { who = server; mark = tag }) range row.inn
 
-pub data_of_rows : (seen : Seen) (server : UnitId) (s : ClientState) (answers : List AnswerRow) (pipe : PipeValue) (own : List Ended) (rows : List Served) (unit : UnitId) (granted pages : ℕ)
-    → KnowsData seen server s answers pipe own → All (λ (row : PipeRow). IsAnswerFor (tags_by unit rows) s.rows row.entry) pipe.sent → IsReplayed granted pages before_lines own
-    → BearRows seen server unit rows s.rows → (e : Ended) → Contains own e → IsDataOfRow rows unit e
-data_of_rows seen server s answers pipe own rows unit granted pages knows put replayed bears e there = by (given_by e.verb) (knows.reads e there)
+pub data_of_rows : (seen : Seen) (server : UnitId) (s : ClientState) (answers : List AnswerRow) (pipe : PipeValue) (own : List Ended) (rows : List Served) (unit self : UnitId)
+    (strokes : ℕ → Option (List StrokeValue)) (granted pages : ℕ) → KnowsData seen server s answers pipe own → All (λ (row : PipeRow). IsAnswerFor (tags_by unit rows) s.rows row.entry) pipe.sent
+    → KnowsAnswers unit self rows s.rows answers strokes → IsReplayed granted pages before_lines own → BearRows seen server unit rows s.rows → (e : Ended) → Contains own e → IsDataOfRow rows unit e
+data_of_rows seen server s answers pipe own rows unit self strokes granted pages knows put judged replayed bears e there = by (given_by e.verb) (knows.reads e there)
   where
     sums : (tag : ℕ) (outcome : Outcome) → IsGivenIf seen (record { who = server; mark = tag }) own answers outcome → (row : Served) → Contains (rows_by unit rows) row → row_tag row ≡ tag
         → SumsUp row.inn outcome
@@ -237,7 +245,8 @@ data_of_rows seen server s answers pipe own rows unit granted pages knows put re
         let at = subst (λ (o : Option DataRange). IsKeptAt s.rows o (outcomes.Sent tag)) line.reads
         (subst (λ (outcome : Outcome). IsKeptAt s.rows (range_in line.line.verb) outcome) line.sent (knows.kept line.line line.there)) in
         let behind = sent_behind granted pages before_lines own replayed line.line line.there tag (record { at = told.range.at; len = line.len }) line.sent line.reads in
-        sums_first seen (record { who = server; mark = tag }) told.range len total row.inn (bears tag line.len told.range row at behind has is) told.told
+        whole_sum len total row.inn (sums_first seen (record { who = server; mark = tag }) told.range len total row.inn (bears tag line.len told.range row at behind has is) told.told)
+        (let most = no_more unit self rows s.rows answers strokes judged tag told.range.at line.len line.said at line.noted row has is in omega (arith, most, line.cut, told.told.in_range))
     sums tag outcome told row has is = tt
 
     by : (o : Option ℕ) → IfSome o (λ tag. IsGivenIf seen (record { who = server; mark = tag }) own answers e.outcome) → IfSome o (λ tag. tells_data e.outcome ≡ true → HasRowOf rows unit tag e.outcome)

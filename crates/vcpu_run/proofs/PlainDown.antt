@@ -1,11 +1,14 @@
 -- A line that fails its partition, as the plain clients of that see it: the queue of each is freed, and no line is left.
 use Rattle.std.proofs.Common.{◌≡◌, ◌∙◌, ◌⊎◌, inl, inr, ℕ, ◌+◌, ◌≤◌, ◌==◌, ◌++◌, All, cond, Bool, true, false, true≢false, List, [], ◌∷◌, Option, Some, None, IfSome, IsSomeAnd, length, refl, slice_get, sym, ap, subst, arith}
-use Rattle.std.proofs.lemmas.List.Elements.{All-cons, All-nil}
+use Rattle.std.proofs.lemmas.List.Elements.{All-cons, All-nil, All-push}
 use Rattle.std.proofs.lemmas.Option.{slice_get_past}
 use Rattle.boot_text.specs.declared.plan.Line.{Line}
 use Rattle.boot_text.specs.declared.verb.Verb.{Verb}
 use Rattle.boot_text.specs.declared.verb.Verb.TheVariants as verbs
 use Rattle.vio_num.specs.Entry.{is_srp_entry}
+use Rattle.vio_num.specs.declared.names.UnitId.{UnitId}
+use Rattle.page_slots.specs.Stroke.{StrokeValue}
+use Rattle.tce_window.specs.PlainPort.{known_of}
 use Rattle.vio_num.specs.declared.entry.Entry.{Entry}
 use Rattle.vio_trace.specs.declared.outcome.Outcome.{Outcome}
 use Rattle.vio_trace.specs.declared.rows.LogRow.{LogRow}
@@ -19,6 +22,7 @@ use Rattle.vcpu_run.specs.FailedShut.{SeatsShut, opens_if}
 use Rattle.vcpu_run.specs.Pairs.{AreDriven}
 use Rattle.vcpu_run.specs.PlainClients.{granted_in}
 use Rattle.vcpu_run.specs.PlainPairs.{between_of}
+use Rattle.vcpu_run.specs.PlainRejected.{TellsOf, TellsRejection}
 use Rattle.vcpu_run.specs.PlainScripts.{AllFailPlainly, IsPlainSeat, OfUnit, PairAsks, PairFailed, PairIs, PairTalks, QuietsPlainly, StandsAt, StandsPlainly, StandsPlainlyAt, TurnsPlainly, TurnedPlainly, after_ended, awaits, owes_at, owes_to, rows_in, told_in}
 use Rattle.vcpu_run.specs.PlainSteps.{AsksAnew, FollowsReplay, HasCome, IsNewWord, KeepsLogin, RestsAs, WasFailed, granted_by}
 use Rattle.vcpu_run.specs.PlainTalk.{Between, TalksPlainly}
@@ -36,9 +40,11 @@ use Rattle.vcpu_run.proofs.Driving.{some_is}
 use Rattle.vcpu_run.proofs.FailedShut.{never_opens}
 use Rattle.vcpu_run.proofs.LinesShown.{fail_is}
 use Rattle.vcpu_run.proofs.Listed.{held, held_is, is_held}
+use Rattle.vcpu_run.proofs.PlainAreLaid.{none_laid}
 use Rattle.vcpu_run.proofs.PlainOwed.{owes_none}
 use Rattle.vcpu_run.proofs.PlainReplayed.{replayed_more}
-use Rattle.vcpu_run.proofs.PlainScripted.{anew_at, ended_other, ended_own, granted_more, owed_at, pair_then}
+use Rattle.vcpu_run.proofs.PlainScripted.{anew_at, ended_other, ended_own, granted_more, noted_at, notes_none, owed_at, pair_then}
+use Rattle.vcpu_run.proofs.PlainTellings.{driven_tell}
 use Rattle.vcpu_run.proofs.SeatPairs.{after_of, before_of}
 
 -- ---- at its pair
@@ -50,6 +56,7 @@ off_fails granted now pair off follows = by pair.driver follows
     by : (o : Option Driver) → IsSomeAnd o (λ driver. (unit : Unit) → FollowsReplay granted now (between_of unit driver pair)) → IsSomeAnd o (λ driver. (unit : Unit) → WasFailed (between_of unit driver pair))
     by None h = absurd h
     by (Some driver) h = λ unit. record {
+      laid = none_laid driver.client (known_of pair.window) ((h unit).fresh off);
       registered = off;
       kept = subst (All (λ (entry : Entry). is_srp_entry entry ≡ true)) (sym ((h unit).fresh off)) (All-nil (λ (entry : Entry). is_srp_entry entry ≡ true));
     }
@@ -155,10 +162,12 @@ pub fails_waits : (old new : List Pair) (script : Script) (line : Line) → slic
     → AreSeats script.partition script.seats.items old → AreDriven old new → AllFailPlainly old new → AllGive old new → TurnsPlainly old new script script
 fails_waits old new script line found failing are driven all gives granted u k unit seat talks stood = record {
   words = one.now.later;
-  owed = owed_at k (told_in u script) (told_in u script) unit old new one.before one.after one.now.later one.there one.here
+  laid = λ before after there here. driven_tell unit.id k old new before after (told_in u script) driven there here;
+  owed = owed_at k (granted_in (told_in u script)) (granted_in (told_in u script)) unit old new one.before one.after one.now.later one.there one.here
       (omega (arith, failed_owes granted unit one.before one.after one.now));
   talks = is_held (PairTalks granted unit one.now.later) (slice_get new k) one.after one.here one.now.talks;
   anew = anew_at k old new one.before one.after one.now.later one.there one.here (failed_asks granted unit one.before one.after one.now);
+  noted = noted_at k old new one.before one.after one.there one.here (notes_none one.before one.after one.now.answers);
   keeps = keep_gives old new gives;
   stands = is_held (StandsPlainly granted u script) (slice_get new k) one.after one.here (stands one.now.left);
 }
@@ -185,7 +194,8 @@ none_said granted pages now verb outcome is = subst (λ (v : Verb). IfSome (ends
 -- what the client's lines that ended say behind it
 record SaysNoMore (granted u pages : ℕ) (script done : Script) : Type 0 where
   replayed : IsReplayed granted pages before_lines (ended_by u done.lines.now done.logs.items)
-  told : told_in u done ≡ told_in u script
+  told : granted_in (told_in u done) ≡ granted_in (told_in u script)
+  laid : (who : UnitId) (strokes : ℕ → Option (List StrokeValue)) → All (TellsOf who strokes) (told_in u script) → All (TellsOf who strokes) (told_in u done)
 
 says_no_more : (granted u pages : ℕ) (script done : Script) (line : Line) (row : LogRow) → slice_get script.lines.now script.at ≡ Some line → fails line.verb ≡ true
     → length script.logs.items ≡ script.at → done.lines ≡ script.lines → done.logs.items ≡ script.logs.items ++ row ∷ [] → grants row.outcome ≡ false
@@ -197,7 +207,12 @@ says_no_more granted u pages script done line row found failing many lines logs 
 
     by : ((line.unit == u) ≡ true) ⊎ ((line.unit == u) ≡ false) → SaysNoMore granted u pages script done
     by (inr other) =
-        let own = ended_other u script done line row found many lines logs other in record { replayed = subst (IsReplayed granted pages before_lines) (sym own) is; told = ap granted_in own }
+        let own = ended_other u script done line row found many lines logs other in
+        record {
+          replayed = subst (IsReplayed granted pages before_lines) (sym own) is;
+          told = ap granted_in own;
+          laid = λ who strokes all. subst (All (TellsOf who strokes)) (sym own) all;
+        }
     by (inl same) =
         let own = ended_own u script done line row found many lines logs same in
         let no : granted_by (steps.Ends row.outcome) ≡ 0 = none_more row.outcome none in
@@ -205,6 +220,8 @@ says_no_more granted u pages script done line row found failing many lines logs 
           replayed = subst (IsReplayed granted pages before_lines) (sym own) (replayed_more granted pages before_lines (ended_by u script.lines.now script.logs.items) e is
               (none_said granted pages (after_ended granted pages before_lines (ended_by u script.lines.now script.logs.items)) line.verb row.outcome (fail_is line.verb failing)));
           told = ap granted_in own ∙ (granted_more (ended_by u script.lines.now script.logs.items) e ∙ omega (arith, no));
+          laid = λ who strokes all. subst (All (TellsOf who strokes)) (sym own) (All-push (TellsOf who strokes) (ended_by u script.lines.now script.logs.items) e all
+              (subst (λ (verb : Verb). TellsRejection verb row.outcome who strokes) (sym (fail_is line.verb failing)) tt));
         }
       where
         none_more : (outcome : Outcome) → grants outcome ≡ false → granted_by (steps.Ends outcome) ≡ 0
@@ -216,10 +233,12 @@ pub fails_ends : (old new : List Pair) (script done : Script) (line : Line) (row
     → done.at ≡ length done.lines.now → TurnsPlainly old new script done
 fails_ends old new script done line row found failing are driven all gives shut many lines logs none over granted u k unit seat talks stood = record {
   words = one.now.later;
-  owed = owed_at k (told_in u script) (told_in u done) unit old new one.before one.after one.now.later one.there one.here
+  laid = λ before after there here all. said.laid unit.id (known_of after.window).strokes (driven_tell unit.id k old new before after (told_in u script) driven there here all);
+  owed = owed_at k (granted_in (told_in u script)) (granted_in (told_in u done)) unit old new one.before one.after one.now.later one.there one.here
       (omega (arith, said.told, failed_owes granted unit one.before one.after one.now));
   talks = is_held (PairTalks granted unit one.now.later) (slice_get new k) one.after one.here one.now.talks;
   anew = anew_at k old new one.before one.after one.now.later one.there one.here (failed_asks granted unit one.before one.after one.now);
+  noted = noted_at k old new one.before one.after one.there one.here (notes_none one.before one.after one.now.answers);
   keeps = keep_gives old new gives;
   stands = is_held (StandsPlainly granted u done) (slice_get new k) one.after one.here (record {
     replayed = subst (λ n. IsReplayed granted n before_lines (ended_by u done.lines.now done.logs.items)) (sym one.pages) said.replayed;

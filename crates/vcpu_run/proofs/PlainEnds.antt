@@ -12,7 +12,7 @@ use Rattle.block_server.specs.declared.unit.Unit.{Unit}
 use Rattle.vscsi_client.specs.declared.outgoing.Outgoing.{Outgoing}
 use Rattle.vscsi_client.specs.declared.stage.Stage.{Stage}
 use Rattle.vscsi_client.specs.declared.stage.Stage.TheVariants.{Idle}
-use Rattle.vcpu_run.specs.PlainTalk.{AreApart, CountsAsked, AreInOrder, ArePending, Ask, AskedParts, Between, HasAnswer, DataLies, HaveAnswers, IsAsk, IsTalking, SaysOfLogin, TagsRise, all_asked, grants_one, has_login, is_granted, is_login, is_logout, is_sent, login_name, StartsAt}
+use Rattle.vcpu_run.specs.PlainTalk.{AreApart, CountsAsked, AreInOrder, ArePending, Ask, AskedParts, Between, HasAnswer, DataLies, HaveAnswers, IsAsk, IsTalking, IsAnswerBy, TagsRise, all_asked, grants_one, has_login, is_granted, is_login, is_logout, is_sent, login_name, StartsAt}
 use Rattle.vcpu_run.proofs.PlainAsks.{all_parts, no_front}
 use Rattle.vcpu_run.proofs.PlainLists.{answers_plain, granted_push, last_login, no_login}
 
@@ -188,7 +188,7 @@ granted_talk granted at at' asked answers kept entry come response talk is login
     before = λ no'. ap is_some ends.granted ∙ sym last.on ∙ ap (λ (u : Unit). nat_le 1 u.logins.current) (sym ends.unit);
     on = λ has. absurd (true≢false (sym has));
     answer = λ has. absurd (true≢false (sym has));
-    grant = All-nil (SaysOfLogin granted);
+    grant = All-nil (IsAnswerBy granted at'.unit.id at'.window);
   };
 }
   where
@@ -196,20 +196,20 @@ granted_talk granted at at' asked answers kept entry come response talk is login
     last = (last_is granted at asked answers kept entry come talk is login).0
 
     grant : response.delta ≡ granted
-    grant = subst (SaysOfLogin granted) said (All-head (SaysOfLogin granted) is.answer is.later
-        (all_parts (SaysOfLogin granted) is.before (is.answer ∷ is.later) (subst (All (SaysOfLogin granted)) is.answers_are talk.login.grant)).1)
+    grant = subst (IsAnswerBy granted at.unit.id at.window) said (All-head (IsAnswerBy granted at.unit.id at.window) is.answer is.later
+        (all_parts (IsAnswerBy granted at.unit.id at.window) is.before (is.answer ∷ is.later) (subst (All (IsAnswerBy granted at.unit.id at.window)) is.answers_are talk.login.grant)).1)
 
 -- What an answer says that ends a login: what stands before it grants none.
 pub record SaysLast (granted : ℕ) (at : Between) (asked : AskedParts) (answer : Iu) : Type 0 where
   pub known : is_some at.client.granted ≡ not (is_granted answer)
-  pub says : SaysOfLogin granted answer
+  pub says : IsAnswerBy granted at.unit.id at.window answer
 
 pub says_last : (granted : ℕ) (at : Between) (asked : AskedParts) (answers : List Iu) (kept : List Entry) (entry : Entry) (come : List Entry) → IsTalking granted at [] asked answers
     → (is : IsAmong at.window kept entry come asked.answered answers) → is_login is.ask.iu ≡ true → SaysLast granted at asked is.answer
 says_last granted at asked answers kept entry come talk is login = record {
   known = talk.login.answer (ap has_login last.answered ∙ has_login_mid is.front is.ask [] login) ∙ ap not one;
-  says = All-head (SaysOfLogin granted) is.answer is.later
-      (all_parts (SaysOfLogin granted) is.before (is.answer ∷ is.later) (subst (All (SaysOfLogin granted)) is.answers_are talk.login.grant)).1;
+  says = All-head (IsAnswerBy granted at.unit.id at.window) is.answer is.later
+      (all_parts (IsAnswerBy granted at.unit.id at.window) is.before (is.answer ∷ is.later) (subst (All (IsAnswerBy granted at.unit.id at.window)) is.answers_are talk.login.grant)).1;
 }
   where
     parts : IsLast at asked come is.front is.ask × (is.later ≡ [])

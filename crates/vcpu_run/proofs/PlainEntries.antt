@@ -14,8 +14,9 @@ use Rattle.vcpu_run.specs.PlainTalk.{Between}
 use Rattle.vcpu_run.specs.Replay.{Replay}
 use Rattle.vcpu_run.specs.declared.taking.Took.{Took}
 use Rattle.vcpu_run.specs.declared.taking.Took.TheVariants as tooks
+use Rattle.vcpu_run.proofs.PlainAreLaid.{IsNotedAs, noted_laid}
 use Rattle.vcpu_run.proofs.PlainFails.{takes_failed}
-use Rattle.vcpu_run.proofs.PlainOldest.{LeavesTaken, take_leaves}
+use Rattle.vcpu_run.proofs.PlainOldest.{LeavesTaken, leaves_laid, take_leaves}
 
 -- what an entry that a client took is to its driver
 abbrev pub took_of : Taken → Took
@@ -65,13 +66,19 @@ more_by old new (takens.Again page word) takes = next_more old.client.kept old.e
 -- ---- all of it
 
 takes_alone : (old new : Own) (taken : Taken) → TakesEntry old.client new.client (ports false old.end false old.window) (ports false new.end false new.window) taken
-    → OnlyTakes false old.end new.end → OnlyReads false old.window new.window → TakesPlainly (took_of taken) old new
-takes_alone old new taken takes only reads = record {
+    → OnlyTakes false old.end new.end → OnlyReads false old.window new.window → IsNotedAs taken old.answers new.answers → TakesPlainly (took_of taken) old new
+takes_alone old new taken takes only reads noted = record {
+  reads = reads;
   entries = record { rest = only; rows = more.0; more = more.1 };
   leaves = λ granted unit server server' now stays talks follows.
-      let left = take_leaves granted now (beside unit server old) (beside unit server' new) taken talks follows stays takes only reads in
-      (left.0, leaves_as granted now (beside unit server' new) taken left.1);
-  failed = λ granted unit server server' stays talks fails. takes_failed granted (beside unit server old) (beside unit server' new) taken talks fails stays takes only reads;
+      let left = take_leaves granted now (beside unit server old) (beside unit server' new) taken talks follows stays takes only reads in (
+        left.0,
+        leaves_as granted now (beside unit server' new) taken left.1,
+        noted_laid taken new.window old.answers new.answers (leaves_laid granted now (beside unit server old) (beside unit server' new) taken talks follows takes only reads) noted,
+      );
+  failed = λ granted unit server server' stays talks fails.
+      let left = takes_failed granted (beside unit server old) (beside unit server' new) taken talks fails stays takes only reads in
+      (left.0, left.1, left.2, noted_laid taken new.window old.answers new.answers left.3 noted);
 }
   where
     more : (rows : List PipeRow) × (new.end.taken ≡ old.end.taken ++ rows)
@@ -79,8 +86,10 @@ takes_alone old new taken takes only reads = record {
 
 pub take_plainly : (crq_shared own_shared : Bool) (old new : Own) (taken kind : Taken) (took : Took) → taken ≡ kind → took_of kind ≡ took
     → TakesEntry old.client new.client (ports crq_shared old.end own_shared old.window) (ports crq_shared new.end own_shared new.window) taken
-    → OnlyTakes crq_shared old.end new.end → OnlyReads own_shared old.window new.window → crq_shared ≡ false → own_shared ≡ false → TakesPlainly took old new
-take_plainly false false old new taken kind took is so takes only reads crq_alone own_alone =
-    subst (λ (t : Took). TakesPlainly t old new) (ap took_of is ∙ so) (takes_alone old new taken takes only reads)
-take_plainly true own_shared old new taken kind took is so takes only reads crq_alone own_alone = absurd (true≢false crq_alone)
-take_plainly false true old new taken kind took is so takes only reads crq_alone own_alone = absurd (true≢false own_alone)
+    → OnlyTakes crq_shared old.end new.end → OnlyReads own_shared old.window new.window → crq_shared ≡ false → own_shared ≡ false → IsNotedAs kind old.answers new.answers
+    → TakesPlainly took old new
+take_plainly false false old new taken kind took is so takes only reads crq_alone own_alone noted =
+    subst (λ (t : Took). TakesPlainly t old new) (ap took_of is ∙ so)
+    (takes_alone old new taken takes only reads (subst (λ (t : Taken). IsNotedAs t old.answers new.answers) (sym is) noted))
+take_plainly true own_shared old new taken kind took is so takes only reads crq_alone own_alone noted = absurd (true≢false crq_alone)
+take_plainly false true old new taken kind took is so takes only reads crq_alone own_alone noted = absurd (true≢false own_alone)

@@ -1,5 +1,5 @@
 -- What is left at its pair of a plain client whose partition fails.
-use Rattle.std.proofs.Common.{◌≡◌, ◌∙◌, ◌⊎◌, inl, inr, ℕ, Bool, true, false, true≢false, List, [], ◌∷◌, Some, length, refl, sym, ap, subst, append-nil}
+use Rattle.std.proofs.Common.{◌≡◌, ◌∙◌, ◌⊎◌, inl, inr, ℕ, Bool, true, false, true≢false, List, [], ◌∷◌, Option, Some, None, length, refl, sym, ap, subst, append-nil}
 use Rattle.std.specs.Borrow.{GName}
 use Rattle.vio_num.specs.Entry.{partner_failed}
 use Rattle.crq_session.specs.Answered.{Frees}
@@ -16,9 +16,9 @@ use Rattle.vscsi_client.specs.Turned.{unlinked}
 use Rattle.vcpu_run.specs.Agreed.{OnDrivers}
 use Rattle.vcpu_run.specs.Pairs.{Drives}
 use Rattle.vcpu_run.specs.PlainPairs.{between_of}
-use Rattle.vcpu_run.specs.PlainScripts.{PairFailsPlainly, PairIs, rows_in}
+use Rattle.vcpu_run.specs.PlainScripts.{PairFailsPlainly, PairIs, answers_in, rows_in}
 use Rattle.vcpu_run.specs.PlainSeated.{own_in}
-use Rattle.vcpu_run.specs.PlainSteps.{WasFailed, Own, beside, own_by}
+use Rattle.vcpu_run.specs.PlainSteps.{WasFailed, Own, beside, own_of}
 use Rattle.vcpu_run.specs.PlainTalk.{ServerStays, TalksPlainly, TookNoMore}
 use Rattle.vcpu_run.specs.declared.driver.Driver.{Driver}
 use Rattle.vcpu_run.specs.declared.pair.Pair.{Pair}
@@ -87,17 +87,17 @@ fails_through a b x y old new is = record { so = λ granted unit server server' 
 -- ---- at its pair
 
 pair_fails : (f g : Bool) (x y : List GName) (lent : PlainLink) (old new : Pair) → lent ≡ old.link → f ≡ false → g ≡ false → Drives old new
-    → ((a : Driver) → old.driver ≡ Some a → (b : Driver) × (new.driver ≡ Some b)
-    × FailsAt (own_by a.client (end_of x lent f) (known_of old.window)) (own_by b.client (end_of y new.link g) (known_of new.window)))
+    → ((a : Driver) → old.driver ≡ Some a → (b : Driver) × (new.driver ≡ Some b) × (b.answers.items ≡ a.answers.items)
+    × FailsAt (own_of a (end_of x lent f) (known_of old.window)) (own_of b (end_of y new.link g) (known_of new.window)))
     → PairFailsPlainly old new
 pair_fails f g x y lent old new same first next drives step granted unit words talks may =
     let (a, was, talk) = driver_of (λ driver. TalksPlainly granted (between_of unit driver old) words) old.driver talks in
-    let (b, there, is) = step a was in
+    let (b, there, answers, is) = step a was in
     let fails : FailsAt (own_in a old) (own_in b new) =
     fails_through x y [] [] (own_in a old) (own_in b new)
-    (subst (λ (l : PlainLink). FailsAt (own_by a.client (end_of x l false) (known_of old.window)) (own_by b.client (end_of y new.link false) (known_of new.window))) same
-    (subst (λ (d : Bool). FailsAt (own_by a.client (end_of x lent d) (known_of old.window)) (own_by b.client (end_of y new.link false) (known_of new.window))) first
-    (subst (λ (d : Bool). FailsAt (own_by a.client (end_of x lent f) (known_of old.window)) (own_by b.client (end_of y new.link d) (known_of new.window))) next is))) in
+    (subst (λ (l : PlainLink). FailsAt (own_of a (end_of x l false) (known_of old.window)) (own_of b (end_of y new.link false) (known_of new.window))) same
+    (subst (λ (d : Bool). FailsAt (own_of a (end_of x lent d) (known_of old.window)) (own_of b (end_of y new.link false) (known_of new.window))) first
+    (subst (λ (d : Bool). FailsAt (own_of a (end_of x lent f) (known_of old.window)) (own_of b (end_of y new.link d) (known_of new.window))) next is))) in
     let (later, talk', said, failed, rows) = fails.so granted unit (end_of [] old.link true) (end_of [] new.link true) words
     (server_stays unit a b old new drives talk.calm.ends.server_took (fails.took talk.calm.ends.own_took)) talk (here a was unit words may) in
     record {
@@ -105,6 +105,7 @@ pair_fails f g x y lent old new same first next drives step granted unit words t
       talks = talks_at granted unit later new b there talk';
       said = said;
       rows = ap rows_in there ∙ (rows ∙ sym (ap rows_in was));
+      answers = ap answers_in there ∙ (answers ∙ sym (ap answers_in was));
       left = inr (pair_is WasFailed new b there (λ other. failed_through [] unit other (end_of [] new.link true) (end_of [] new.link true) (own_in b new) failed));
     }
   where
@@ -115,17 +116,26 @@ pair_fails f g x y lent old new same first next drives step granted unit words t
 
 -- the queue was freed, and the driver told
 pub pair_freed : (f g : Bool) (x y : List GName) (lent link : PlainLink) (room : EndState) (old new : Pair) → lent ≡ old.link → f ≡ false → g ≡ false → Drives old new → new.link ≡ link
-    → new.window ≡ old.window → OnDrivers old.driver new.driver (λ a b. b.client ≡ unlinked a.client) → OnlyReserves (end_of x lent f) room
+    → new.window ≡ old.window → OnDrivers old.driver new.driver (λ a b. b.client ≡ unlinked a.client)
+    → OnDrivers old.driver new.driver (λ a b. b.answers.items ≡ a.answers.items) → OnlyReserves (end_of x lent f) room
     → Frees false room partner_failed (end_of y link g) → OnlyFrees false room (end_of y link g) → PairFailsPlainly old new
-pair_freed f g x y lent link room old new same first next drives linked window told ready frees rest =
+pair_freed f g x y lent link room old new same first next drives linked window told noted ready frees rest =
     pair_fails f g x y lent old new same first next drives
-    (λ a was. let b = driver_behind (λ a b. b.client ≡ unlinked a.client) old.driver new.driver a was told in (
+    (λ a was. let b = driver_behind (λ a b. (b.client ≡ unlinked a.client) × (b.answers.items ≡ a.answers.items)) old.driver new.driver a was (both old.driver new.driver told noted) in (
       b.0,
       b.1,
-      freed_so (own_by a.client (end_of x lent f) (known_of old.window)) (own_by b.0.client (end_of y new.link g) (known_of new.window)) room ready
+      b.2.1,
+      freed_so (own_of a (end_of x lent f) (known_of old.window)) (own_of b.0 (end_of y new.link g) (known_of new.window)) room ready
           (subst (λ (l : PlainLink). Frees false room partner_failed (end_of y l g)) (sym linked) frees)
-          (subst (λ (l : PlainLink). OnlyFrees false room (end_of y l g)) (sym linked) rest) b.2 (ap (λ (w : WindowValue). known_of w) window),
+          (subst (λ (l : PlainLink). OnlyFrees false room (end_of y l g)) (sym linked) rest) b.2.0 (ap (λ (w : WindowValue). known_of w) window),
     ))
+  where
+    both : (o p : Option Driver) → OnDrivers o p (λ a b. b.client ≡ unlinked a.client) → OnDrivers o p (λ a b. b.answers.items ≡ a.answers.items)
+        → OnDrivers o p (λ a b. (b.client ≡ unlinked a.client) × (b.answers.items ≡ a.answers.items))
+    both None None told noted = tt
+    both (Some a) (Some b) told noted = (told, noted)
+    both None (Some b) told noted = told
+    both (Some a) None told noted = told
 
 -- it was not registered
 pub pair_shut : (f g : Bool) (x y : List GName) (lent : PlainLink) (room : EndState) (old new : Pair) → lent ≡ old.link → f ≡ false → g ≡ false → Drives old new
@@ -135,6 +145,7 @@ pair_shut f g x y lent room old new same first next drives window driver ready r
     pair_fails f g x y lent old new same first next drives (λ a was. (
       a,
       driver ∙ was,
-      shut_so (own_by a.client (end_of x lent f) (known_of old.window)) (own_by a.client (end_of y new.link g) (known_of new.window)) room ready refused off refl
+      refl,
+      shut_so (own_of a (end_of x lent f) (known_of old.window)) (own_of a (end_of y new.link g) (known_of new.window)) room ready refused off refl
           (ap (λ (w : WindowValue). known_of w) window),
     ))

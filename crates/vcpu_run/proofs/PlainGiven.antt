@@ -37,7 +37,7 @@ use Rattle.vcpu_run.proofs.PlainTags.{tags_added}
 
 -- ---- what was put
 
-put_rows : (P : Entry → Type 0) (old new : EndState) (entries : List Entry) → All (λ (row : PipeRow). P row.entry) old.sent → All P entries → PutsReplies old new entries
+pub put_rows : (P : Entry → Type 0) (old new : EndState) (entries : List Entry) → All (λ (row : PipeRow). P row.entry) old.sent → All P entries → PutsReplies old new entries
     → All (λ (row : PipeRow). P row.entry) new.sent
 put_rows P old new entries all more put =
     subst (All (λ (row : PipeRow). P row.entry)) (sym put)

@@ -1,4 +1,5 @@
--- A turn of a plain client's server unit adds a line that says that a login was granted just where it grants one, of which the client does not know yet.
+-- A turn of a plain client's server unit adds a line that says that a login was granted just where it grants one, of which the client does
+-- not know yet.
 use Rattle.std.proofs.Common.{◌≡◌, ◌∙◌, ◌⊎◌, inl, inr, ℕ, ◌+◌, ◌≤◌, ◌++◌, ◌∷◌, ◌==◌, ◌&&◌, nat_le, All, Bool, true, false, true≢false, append-nil, cond, filter, is_some, length, length-append, List, [], refl, sym, ap, arith, eq-eqb, eqb-true}
 use Rattle.std.proofs.Math.Logic.{∥∥₁_elim}
 use Rattle.std.proofs.lemmas.Bool.Decides.{nat_tests}

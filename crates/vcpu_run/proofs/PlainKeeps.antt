@@ -13,6 +13,7 @@ use Rattle.vcpu_run.specs.PlainTalk.{CountsAsked, ArePending, AskedParts, Betwee
 use Rattle.vcpu_run.proofs.PlainReady.{all_front}
 use Rattle.vcpu_run.proofs.PlainServed.{all_kept, all_spared, answers_move}
 use Rattle.vcpu_run.proofs.PlainStarts.{KeepPlaces, starts_behind}
+use Rattle.vcpu_run.proofs.PlainRejected.{says_move}
 
 -- What a client that keeps an answer for later leaves as it was.
 pub record KeepsEntry (at at' : Between) : Type 0 where
@@ -67,6 +68,6 @@ kept_talk granted at at' asked answers talk keeps = record {
         ∙ ap (λ (u : Unit). on_behind (nat_le 1 u.logins.current) (asked.pending ++ asked.coming)) (sym keeps.unit);
     on = λ some. subst (λ (u : Unit). 1 ≤ u.logins.current) (sym keeps.unit) (talk.login.on some);
     answer = λ some. ap is_some keeps.granted ∙ talk.login.answer some;
-    grant = talk.login.grant;
+    grant = says_move granted at.unit.id at'.unit.id at.window at'.window (ap (λ (u : Unit). u.id) keeps.unit) keeps.keeps.unit keeps.keeps.strokes answers talk.login.grant;
   };
 }

@@ -1,4 +1,5 @@
--- What a turn of a plain client's server unit lays behind the slots of its client's window: data-in of the row that the turn adds, each byte at its place.
+-- What a turn of a plain client's server unit lays behind the slots of its client's window: data-in of the row that the turn adds, each
+-- byte at its place.
 use Rattle.std.proofs.Common.{◌≡◌, ◌≢◌, ◌∙◌, ◌⊎◌, ◌++◌, ◌+◌, ◌-◌, ◌*◌, ◌<◌, ◌≤◌, ◌∷◌, inl, inr, ℕ, All, Bool, true, false, cond, Contains, List, [], nat_lt, Option, Some, None, length, length-append, map, refl, sym, ap, subst, arith}
 use Rattle.std.proofs.lemmas.Bool.Decides.{nat_tests}
 use Rattle.std.proofs.lemmas.List.{append_cancel_left}
@@ -21,14 +22,12 @@ use Rattle.block_server.specs.Carried.{address_of}
 use Rattle.block_server.specs.Causes.{IsNamed}
 use Rattle.block_server.specs.Ranges.{AddsEach, IsDataIn, Known, MayWrite, StrokeLiesIn, StrokeLiesInOne, WritesOn, known_in, seen_in}
 use Rattle.block_server.specs.RowsOn.{AddsFor, RowsOn, row_tag}
-use Rattle.block_server.specs.Standing.{IsAnswerTo as IsAnswer, LeavesOn, stood}
+use Rattle.block_server.specs.Standing.{LeavesOn, stood}
 use Rattle.block_server.specs.Talk.{HearsAll, Talk, Word, order_asked, talk_of}
 use Rattle.block_server.specs.Talk.Word.{begins, gone}
 use Rattle.block_server.specs.declared.request.Order.{Order}
 use Rattle.block_server.specs.declared.request.Order.TheVariants as orders
 use Rattle.block_server.specs.declared.request.Request.{Request}
-use Rattle.block_server.specs.declared.service.Outcome.{Outcome}
-use Rattle.block_server.specs.declared.service.Outcome.TheVariants as outcomes
 use Rattle.vscsi_client.specs.Units.{slot_address}
 use Rattle.vscsi_client.specs.declared.TheConstants.{DATA_START, SLOTS}
 use Rattle.vscsi_client.specs.declared.row.Row.{Row}
@@ -42,14 +41,16 @@ use Rattle.vcpu_run.proofs.PlainPlaces.{sum_first}
 use Rattle.vcpu_run.proofs.PlainReady.{all_rest}
 use Rattle.vcpu_run.proofs.PlainServed.{heard_talk, pending_first}
 use Rattle.vcpu_run.proofs.PlainTurns.{Turns, begins_up, gone_vacant, hears_these, none_vacant}
+use Rattle.vcpu_run.proofs.PlainAnswered.{answer_few}
 
 -- ---- the request that is served
 
--- The client asked it, and its data lie in its window.
+-- The client asked it, and its data lie in its window; its queue is registered.
 pub record IsAskedFor (at : Between) (request : Request) : Type 0 where
   pub ask : Ask
   pub pending : IsPendingAs request ask
   pub is : IsAsk ask
+  pub registered : at.own.registered ≡ true
   pub lies : DataLies at.window ask
   pub starts : StartsAt at.client.rows ask
 
@@ -86,6 +87,7 @@ asked_for granted at at' lines lines' words talks turn request rest items = by t
           ask = first.0;
           pending = first.3;
           is = All-head IsAsk first.0 first.1 (subst (All IsAsk) first.2 each);
+          registered = talk.registered;
           lies = All-head (DataLies at.window) first.0 first.1 (subst (All (DataLies at.window)) first.2 talk.tables);
           starts = All-head (StartsAt at.client.rows) first.0 first.1 (subst (All (StartsAt at.client.rows)) first.2 talk.starts);
         }
@@ -97,7 +99,7 @@ asked_for granted at at' lines lines' words talks turn request rest items = by t
 
 -- ---- where its data lie
 
-named_data : (window : PortState) (iu : Iu) (list : List Desc) → NamesData (stood window) (order_asked iu) list → IsNamed (stood window) (inn_of iu) list
+pub named_data : (window : PortState) (iu : Iu) (list : List Desc) → NamesData (stood window) (order_asked iu) list → IsNamed (stood window) (inn_of iu) list
 named_data window (units.Cmd command) list is = is
 named_data window (units.LoginReq request) list is = absurd is
 named_data window (units.ILogout tag) list is = absurd is
@@ -128,7 +130,7 @@ address_in (piece ∷ list) j a is = by (λ e. address_in list (j - piece.len) a
 -- ---- a stroke that was laid
 
 -- the page of a stroke is that of its entry
-entry_is : (window : PortState) → IsOwnWindow window → (address len page : ℕ) (stroke : StrokeValue) → (lies : StrokeLiesIn window.values address len page stroke) → lies.entry ≡ page
+pub entry_is : (window : PortState) → IsOwnWindow window → (address len page : ℕ) (stroke : StrokeValue) → (lies : StrokeLiesIn window.values address len page stroke) → lies.entry ≡ page
 entry_is window own address len page stroke lies = sym ((own.values lies.entry).names lies.named.version lies.named.value lies.named.current.shown) ∙ lies.named.named
 
 -- it is not one of an answer
@@ -160,12 +162,6 @@ data_borne name list inn bytes start address entry page stroke same from to bear
     one_address : (a b : ℕ) → Some a ≡ Some b → a ≡ b
     one_address a b e = cc (e)
 
-answer_few : (current granted tag : ℕ) (order : Order) (outcome : Outcome) (bytes : List ℕ) → IsAnswer current granted tag order outcome bytes → length bytes ≤ 256
-answer_few current granted tag order (outcomes.Granted number) bytes (login, of, canon) = canon.within
-answer_few current granted tag order outcomes.Rejected bytes (login, of, rejects) = rejects.bytes_are.within
-answer_few current granted tag order (outcomes.Served row) [] answer = omega arith
-answer_few current granted tag order (outcomes.Served row) (byte ∷ bytes) answer = answer.1.within
-
 -- ---- the row that is added
 
 same_last : (list : List Served) (a b : Served) → list ++ a ∷ [] ≡ list ++ b ∷ [] → a ≡ b
@@ -175,11 +171,11 @@ same_last list a b e = heads (append_cancel_left list (a ∷ []) (b ∷ []) e)
     heads e = cc (e)
 
 -- its tag is that of the request, and its unit this one
-record IsRowOf (unit : UnitId) (request : Request) (rows rows' : List Served) (row : Served) : Type 0 where
-  tag_is : row_tag row ≡ request.tag
-  by_unit : rows_by unit rows' ≡ rows_by unit rows ++ row ∷ []
+pub record IsRowOf (unit : UnitId) (request : Request) (rows rows' : List Served) (row : Served) : Type 0 where
+  pub tag_is : row_tag row ≡ request.tag
+  pub by_unit : rows_by unit rows' ≡ rows_by unit rows ++ row ∷ []
 
-row_added : (unit : UnitId) (request : Request) (rows rows' : List Served) (row : Served) → rows' ≡ rows ++ row ∷ [] → AddsFor unit request rows rows' → IsRowOf unit request rows rows' row
+pub row_added : (unit : UnitId) (request : Request) (rows rows' : List Served) (row : Served) → rows' ≡ rows ++ row ∷ [] → AddsFor unit request rows rows' → IsRowOf unit request rows rows' row
 row_added unit request rows rows' row added (inl adds) =
     let same : adds.row ≡ row = same_last rows adds.row row (sym adds.added ∙ added) in
     record {
@@ -193,7 +189,7 @@ row_added unit request rows rows' row added (inr none) =
 -- ---- the turn
 
 -- what is so of the strokes that a page had, and of those that were laid, is so of all
-page_more : (P Q : StrokeValue → Type 0) (old new : Option (List StrokeValue)) (list : List StrokeValue) → new ≡ Some list → AddsEach P old new
+pub page_more : (P Q : StrokeValue → Type 0) (old new : Option (List StrokeValue)) (list : List StrokeValue) → new ≡ Some list → AddsEach P old new
     → ((was : List StrokeValue) → old ≡ Some was → All Q was) → ((stroke : StrokeValue) → P stroke → Q stroke) → All Q list
 page_more P Q (Some old) (Some new) list is adds was so =
     subst (All Q) (sym adds.1 ∙ same new list is) (All-append Q old adds.0 (was old refl) (All-weaker P Q so adds.0 adds.2))
@@ -214,7 +210,7 @@ rows_more unit request rows rows' server rs page strokes (inl adds) all =
 rows_more unit request rows rows' server rs page strokes (inr none) all =
     subst (λ (list : List Served). All (λ (s : StrokeValue). s.name.who ≡ server → IsOfRow (rows_by unit list) rs page s) strokes) (sym none.1) all
 
-is_out : (order : Order) → (order ≡ orders.Logout) ⊎ (order ≢ orders.Logout)
+pub is_out : (order : Order) → (order ≡ orders.Logout) ⊎ (order ≢ orders.Logout)
 is_out orders.Logout = inl refl
 is_out (orders.Login request) = inr (λ e. cc (e))
 is_out (orders.Task task) = inr (λ e. cc (e))
@@ -254,7 +250,7 @@ question_lays at own name unit request asked answer rows rows' few known adds pa
           tag_is = new.tag_is ∙ sym mark;
           known = subst (λ n. n ≤ length at.client.rows) (sym mark) known;
           lies = λ from len inward.
-              let start : from ≡ asked.ask.start = asked.starts from len (subst (λ n. IsInwardAt at.client.rows n from len) (mark ∙ asked.pending.tag) inward) in
+              let start : from ≡ asked.ask.start = (asked.starts from len (subst (λ n. IsInwardAt at.client.rows n from len) (mark ∙ asked.pending.tag) inward)).0 in
               subst (λ s. IsInPlace row.inn s page stroke) (sym start)
               (data_borne (record { who = name; mark = request.tag }) named.list row.inn laid.bytes asked.ask.start laid.address laid.lies.entry page stroke entry laid.lies.from laid.lies.to
               laid.bears named.part places);

@@ -1,25 +1,24 @@
 -- What a turn of a plain client's server unit leaves in the slots, by where it laid strokes.
-use Rattle.std.proofs.Common.{◌≡◌, ◌≢◌, ◌∙◌, ◌⊎◌, inl, inr, ℕ, ◌+◌, ◌*◌, ◌/◌, ◌%◌, ◌<◌, ◌≤◌, ◌++◌, All, Bool, true, false, cond, List, [], ◌∷◌, Option, Some, None, IsSome, drop, length, refl, sym, take, take-append-drop, ap, ap₂, subst, arith}
-use Rattle.std.specs.Prelude.{⊤}
+use Rattle.std.proofs.Common.{◌≡◌, ◌≢◌, ◌∙◌, inl, inr, ℕ, ◌+◌, ◌*◌, ◌/◌, ◌%◌, ◌<◌, ◌≤◌, List, Option, Some, None, IsSome, length, refl, sym, ap, subst, arith}
 use Rattle.std.proofs.lemmas.List.Elements.{All-weaker}
 use Rattle.page_slots.specs.Stroke.{StrokeValue}
 use Rattle.tce_window.specs.PortState.{PortState}
-use Rattle.block_server.specs.Ends.{IsGrantable}
-use Rattle.block_server.specs.Ranges.{AddsEach, IsDataIn, LaysWithin, StrokeLiesInOne, MayWrite, known_in}
+use Rattle.block_server.specs.Ranges.{AddsEach, LaysWithin, StrokeLiesInOne, MayWrite, known_in}
 use Rattle.block_server.specs.Standing.{stood}
-use Rattle.block_server.specs.Talk.{Suits}
+use Rattle.block_server.specs.Talk.{StandAt, Suits}
 use Rattle.block_server.specs.declared.request.Order.{Order}
 use Rattle.block_server.specs.declared.request.Order.TheVariants as orders
 use Rattle.block_server.specs.declared.request.Request.{Request}
 use Rattle.block_server.specs.declared.service.Outcome.{Outcome}
 use Rattle.block_server.specs.declared.service.Outcome.TheVariants as outcomes
 use Rattle.vscsi_client.specs.Units.{slot_address}
-use Rattle.vscsi_client.specs.declared.TheConstants.{DATA_START}
+use Rattle.vscsi_client.specs.declared.TheConstants.{DATA_START, SLOTS}
 use Rattle.vcpu_run.specs.PlainTalk.{Ask, GoesBehind, IsAsk, IsOwnEntry, IsOwnWindow, IsPendingAs, KeepsSlots, is_grant}
 use Rattle.vcpu_run.proofs.PlainPages.{IsApart, shown, shown_apart, shown_on}
 use Rattle.vcpu_run.proofs.PlainSlots.{behind_apart, slot_on, slots_apart}
 use Rattle.vcpu_run.proofs.PlainStands.{IsOnPage, shown_stand, stand_shown}
 use Rattle.vcpu_run.proofs.PlainStays.{Apart, lies_apart}
+use Rattle.vcpu_run.proofs.PlainRejected.{adds_stay}
 
 -- ---- where strokes were laid
 
@@ -57,18 +56,21 @@ lays_own Ranges old new own place lays = record {
 -- the slots stay, but for that of the request that is served
 pub lays_keep : (old new : PortState) (request : Request) (ask : Ask) → IsOwnWindow old → new.place ≡ old.place → IsPendingAs request ask → IsAsk ask → GoesBehind old request.order
     → LaysWithin (MayWrite (stood old) request) (known_in old) (known_in new) → KeepsSlots (λ slot. slot ≢ ask.slot) old new
-lays_keep old new request ask own place pending is_ask behind lays slot bytes within differs whole stand =
-    let on : IsOnPage old (slot_address slot) (length bytes) = slot_on old own slot (length bytes) within (omega (arith, whole)) (omega (arith, whole)) in
-    let own' : IsOwnWindow new = lays_own (MayWrite (stood old) request) old new own place lays in
-    shown_stand new own' (slot_address slot) bytes (slot_on new own' slot (length bytes) within (omega (arith, whole)) (omega (arith, whole)))
-    (lays_apart (MayWrite (stood old) request) old new (slot_address slot) (length bytes) own lays on.fits
-    (λ a n range. subst (λ m. Apart a n (slot_address slot) m) (sym whole) (by a n range))
-    ∙ stand_shown old own (slot_address slot) bytes on stand)
+lays_keep old new request ask own place pending is_ask behind lays = record { slots = stood'; strokes = λ page stroke is. adds_stay (StrokeLiesInOne old.values (MayWrite (stood old) request) page) (old.strokes page) (new.strokes page) stroke (lays.strokes page) is; unit = ap (λ place. place.unit) place }
   where
-    by : (a n : ℕ) → MayWrite (stood old) request a n → Apart a n (slot_address slot) 256
-    by a n (inl answer) =
+    by : (slot : ℕ) → slot ≤ SLOTS → slot ≢ ask.slot → (a n : ℕ) → MayWrite (stood old) request a n → Apart a n (slot_address slot) 256
+    by slot within differs a n (inl answer) =
         subst (λ from. Apart from n (slot_address slot) 256) (sym (answer.0 ∙ pending.address)) (slots_apart ask.slot slot n (λ same. differs (sym same)) answer.1)
-    by a n (inr data') = behind_apart a n slot within (behind a n data')
+    by slot within differs a n (inr data') = behind_apart a n slot within (behind a n data')
+
+    stood' : (slot : ℕ) (bytes : List ℕ) → slot ≤ SLOTS → slot ≢ ask.slot → length bytes ≡ 256 → StandAt old (slot_address slot) bytes → StandAt new (slot_address slot) bytes
+    stood' slot bytes within differs whole stand =
+        let on : IsOnPage old (slot_address slot) (length bytes) = slot_on old own slot (length bytes) within (omega (arith, whole)) (omega (arith, whole)) in
+        let own' : IsOwnWindow new = lays_own (MayWrite (stood old) request) old new own place lays in
+        shown_stand new own' (slot_address slot) bytes (slot_on new own' slot (length bytes) within (omega (arith, whole)) (omega (arith, whole)))
+        (lays_apart (MayWrite (stood old) request) old new (slot_address slot) (length bytes) own lays on.fits
+        (λ a n range. subst (λ m. Apart a n (slot_address slot) m) (sym whole) (by slot within differs a n range))
+        ∙ stand_shown old own (slot_address slot) bytes on stand)
 
 -- ---- what stands where a request was answered
 

@@ -21,6 +21,7 @@ use Rattle.vcpu_run.proofs.PlainAsks.{all_parts, apart_push, free_outgoing, logi
 use Rattle.vcpu_run.proofs.PlainLists.{login_no_logout, login_push, rise_push}
 use Rattle.vcpu_run.proofs.PlainServed.{all_kept, all_spared, answers_move}
 use Rattle.vcpu_run.proofs.PlainStarts.{KeepPlaces, starts_behind}
+use Rattle.vcpu_run.proofs.PlainRejected.{says_move}
 
 -- ---- lists
 
@@ -160,7 +161,7 @@ logs_in granted at at' asked answers ask talk sends = record {
         ∙ ap (λ (u : Unit). on_behind (nat_le 1 u.logins.current) (asked.pending ++ ask ∷ [])) (sym sends.unit);
     on = λ has. absurd (true≢false (sym has ∙ answered_none));
     answer = λ has. absurd (true≢false (sym has ∙ answered_none));
-    grant = talk.login.grant;
+    grant = says_move granted at.unit.id at'.unit.id at.window at'.window (ap (λ (u : Unit). u.id) sends.unit) sends.keeps.unit sends.keeps.strokes answers talk.login.grant;
   };
 }
   where

@@ -11,13 +11,14 @@ use Rattle.unit_region.specs.declared.step.Step.{Step as Stepped}
 use Rattle.unit_region.specs.declared.step.Step.TheVariants as steps
 use Rattle.vio_trace.specs.declared.outcome.Outcome.{Outcome}
 use Rattle.vio_trace.specs.declared.outcome.Outcome.TheVariants as outcomes
+use Rattle.vio_trace.specs.declared.rows.AnswerRow.{AnswerRow}
 use Rattle.vscsi_client.specs.Turned.{AreInOrder, EndsWith, Ends, FollowOn, LoginStep, NoneEnds, Pauses, Runs, SameHands, Site, Steps, Turned, ends_login, ends_turn}
 use Rattle.vscsi_client.specs.Turned.LoginStep.{Looked, Registered}
 use Rattle.vscsi_client.specs.declared.answers.LoginTurn.{LoginTurn}
 use Rattle.vscsi_client.specs.declared.answers.LoginTurn.TheVariants as turns
 use Rattle.vscsi_client.specs.declared.found.Found.{Found}
 use Rattle.vscsi_client.specs.declared.found.Found.TheVariants.{Granted, Lost, Rejected}
-use Rattle.vcpu_run.specs.PlainSteps.{AsksAnew, IsLoginReplayed, LogsInPlainly, MayLogIn, Own, beside, own_by}
+use Rattle.vcpu_run.specs.PlainSteps.{AsksAnew, IsLoginReplayed, LogsInPlainly, MayLogIn, Own, beside, own_by, StepTells}
 use Rattle.vcpu_run.specs.PlainTalk.{Between, ServerStays, TalksPlainly}
 use Rattle.vcpu_run.specs.Replay.{Replay, login_says}
 use Rattle.vcpu_run.specs.Sendings.{SaysTurned}
@@ -28,6 +29,8 @@ use Rattle.vcpu_run.proofs.PlainOutcomes.{EndsAs, ends_on, outcome_of}
 use Rattle.vcpu_run.proofs.PlainPauses.{GoesOn, Starts, pauses_on}
 use Rattle.vcpu_run.proofs.PlainRests.{Rests}
 use Rattle.vcpu_run.proofs.PlainWalks.{both_false, least, part_same, walks}
+use Rattle.boot_text.specs.declared.verb.Verb.TheVariants as verbs
+use Rattle.vcpu_run.specs.PlainRejected.{IsOfRejection}
 
 -- ---- the registration, and what follows
 
@@ -156,13 +159,13 @@ leads_anew granted line now at answer later first b server talks gone opened run
 -- ---- the turn
 
 turned_leaves : (granted line : ℕ) (now : Replay) (a b : Site) (unit : Unit) (server server' : EndState) (turn : LoginTurn) → a.at.crq_shared ≡ false → a.at.own_shared ≡ false
-    → Turned line a b (Ok turn) → ServerStays (beside unit server (own_by a.client a.at.crq a.at.own)) (beside unit server' (own_by b.client b.at.crq b.at.own))
-    → TalksPlainly granted (beside unit server (own_by a.client a.at.crq a.at.own)) [] → MayLogIn granted now (beside unit server (own_by a.client a.at.crq a.at.own))
-    → TurnLeaves granted now (length a.client.rows) (beside unit server' (own_by b.client b.at.crq b.at.own)) turn
+    → Turned line a b (Ok turn) → ServerStays (beside unit server (own_by a.client [] a.at.crq a.at.own)) (beside unit server' (own_by b.client [] b.at.crq b.at.own))
+    → TalksPlainly granted (beside unit server (own_by a.client [] a.at.crq a.at.own)) [] → MayLogIn granted now (beside unit server (own_by a.client [] a.at.crq a.at.own))
+    → TurnLeaves granted now (length a.client.rows) (beside unit server' (own_by b.client [] b.at.crq b.at.own)) turn
 turned_leaves granted line now a b unit server server' turn crq own turned stays talks may = by a.at.crq.registered refl
   where
     at : Between
-    at = beside unit server (own_by a.client a.at.crq a.at.own)
+    at = beside unit server (own_by a.client [] a.at.crq a.at.own)
 
     order : AreInOrder turned.steps
     order = turned.ends.2
@@ -185,32 +188,34 @@ turned_leaves granted line now a b unit server server' turn crq own turned stays
         leaves (leads_anew granted line now at order.answer order.later parts.first b server' talks with start.0 parts.runs order.order stays) start.1
 
 outcome_is : (granted : ℕ) (now : Replay) (last : ℕ) (at : Between) (found : Found) (outcome : Outcome) (step : Stepped) → outcome_of found ≡ Some outcome
-    → step ≡ steps.Ends outcome → EndsAs granted now last at found
-    → (words : List Word) × TalksPlainly granted at words × AsksAnew last at.client words × IsLoginReplayed granted now at words step
-outcome_is granted now last at found outcome step of is ends = (
+    → step ≡ steps.Ends outcome → IsOfRejection outcome at.unit.id at.window.strokes → EndsAs granted now last at found
+    → (words : List Word) × TalksPlainly granted at words × AsksAnew last at.client words × IsLoginReplayed granted now at words step × StepTells verbs.Login step at.unit.id at.window.strokes
+outcome_is granted now last at found outcome step of is laid ends = (
   [],
   ends.talks,
   ends.anew,
   subst (IsLoginReplayed granted now at []) (sym is) (some_same outcome (login_says granted now) (sym of ∙ ends.outcome), ends.follows),
+  subst (λ (s : Stepped). StepTells verbs.Login s at.unit.id at.window.strokes) (sym is) laid,
 )
   where
     some_same : (a b : Outcome) → Some a ≡ Some b → a ≡ b
     some_same a b e = cc (e)
 
 says_on : (granted : ℕ) (now : Replay) (last : ℕ) (at : Between) (turn : LoginTurn) (step : Stepped) → SaysTurned turn step → TurnLeaves granted now last at turn
-    → (words : List Word) × TalksPlainly granted at words × AsksAnew last at.client words × IsLoginReplayed granted now at words step
-says_on granted now last at turns.Again (steps.Waits did) says (words, talks, anew, logging, todo) = (words, talks, anew, (logging, todo))
+    → (words : List Word) × TalksPlainly granted at words × AsksAnew last at.client words × IsLoginReplayed granted now at words step × StepTells verbs.Login step at.unit.id at.window.strokes
+says_on granted now last at turns.Again (steps.Waits did) says (words, talks, anew, logging, todo) = (words, talks, anew, (logging, todo), tt)
 says_on granted now last at turns.Again (steps.Ends outcome) says leaves = absurd says
-says_on granted now last at (turns.Granted credits) step says ends = outcome_is granted now last at (Granted credits) (outcomes.Granted credits) step refl says ends
-says_on granted now last at (turns.Rejected reason) step says ends = outcome_is granted now last at (Rejected reason) (outcomes.Rejected reason) step refl says ends
+says_on granted now last at (turns.Granted credits) step says ends = outcome_is granted now last at (Granted credits) (outcomes.Granted credits) step refl says tt ends
+says_on granted now last at (turns.Rejected reason) step says ends = outcome_is granted now last at (Rejected reason) (outcomes.Rejected reason) step refl says (ends.laid reason refl) ends
 says_on granted now last at turns.Lost step says ends = absurd (cc (ends.outcome))
 says_on granted now last at (turns.Busy number held) step says none = absurd none
 
-pub logs_in_plainly : (line : ℕ) (a b : Site) (turn : LoginTurn) (step : Stepped) → a.at.crq_shared ≡ false → a.at.own_shared ≡ false → Turned line a b (Ok turn) → SaysTurned turn step
-    → LogsInPlainly (own_by a.client a.at.crq a.at.own) (own_by b.client b.at.crq b.at.own) (Ok step)
-logs_in_plainly line a b turn step crq own turned says granted unit server server' now stays talks may =
-    says_on granted now (length a.client.rows) (beside unit server' (own_by b.client b.at.crq b.at.own)) turn step says
-    (turned_leaves granted line now a b unit server server' turn crq own turned stays talks may)
+pub logs_in_plainly : (line : ℕ) (a b : Site) (noted : List AnswerRow) (turn : LoginTurn) (step : Stepped) → a.at.crq_shared ≡ false → a.at.own_shared ≡ false → Turned line a b (Ok turn) → SaysTurned turn step
+    → LogsInPlainly (own_by a.client noted a.at.crq a.at.own) (own_by b.client noted b.at.crq b.at.own) (Ok step)
+logs_in_plainly line a b noted turn step crq own turned says granted unit server server' now stays talks may =
+    let on = says_on granted now (length a.client.rows) (beside unit server' (own_by b.client [] b.at.crq b.at.own)) turn step says
+    (turned_leaves granted line now a b unit server server' turn crq own turned stays talks may) in
+    (on.0, on.1, on.2, on.3, on.4, refl)
 
 -- a turn for which memory ran out leaves nothing to say
 pub logs_err : (old new : Own) (result : Result Stepped NoMemory) (memory : NoMemory) → result ≡ Err memory → LogsInPlainly old new result

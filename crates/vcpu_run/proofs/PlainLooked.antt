@@ -10,6 +10,7 @@ use Rattle.srp_iu.specs.declared.login.TheConstants.{UNABLE_TO_ESTABLISH_CHANNEL
 use Rattle.srp_iu.specs.declared.unit.Iu.{Iu}
 use Rattle.srp_iu.specs.declared.unit.Iu.TheVariants as units
 use Rattle.block_server.specs.Talk.{to_come, tag_asked}
+use Rattle.block_server.specs.declared.unit.Unit.{Unit}
 use Rattle.vscsi_client.specs.Login.{Finds, found_by}
 use Rattle.vscsi_client.specs.State.{ClientState}
 use Rattle.vscsi_client.specs.Taking.{is_step}
@@ -18,7 +19,7 @@ use Rattle.vscsi_client.specs.declared.found.Found.{Found}
 use Rattle.vscsi_client.specs.declared.found.Found.TheVariants.{Answer, Granted, Rejected}
 use Rattle.vscsi_client.specs.declared.stage.Due.{Due}
 use Rattle.vcpu_run.proofs.PlainAsks.{all_parts}
-use Rattle.vcpu_run.specs.PlainTalk.{Ask, AskedParts, Between, HaveAnswers, IsAsk, IsCalm, IsTalking, SaysOfLogin, ServerStays, is_granted, is_login}
+use Rattle.vcpu_run.specs.PlainTalk.{Ask, AskedParts, Between, HaveAnswers, IsAsk, IsCalm, IsTalking, IsAnswerBy, ServerStays, is_granted, is_login}
 use Rattle.vcpu_run.proofs.PlainEnds.{EndsGranted, IsAmong, IsLast, SaysLast, among, granted_talk, last_is, says_last}
 use Rattle.vcpu_run.proofs.PlainFinds.{finds_answer, finds_login, found_in}
 use Rattle.vcpu_run.proofs.PlainKeeps.{kept_talk}
@@ -28,6 +29,8 @@ use Rattle.vcpu_run.proofs.PlainRejects.{EndsRejected, rejected_talk}
 use Rattle.vcpu_run.proofs.PlainStarts.{same_places}
 use Rattle.vcpu_run.proofs.PlainStill.{reads_data, reads_leave}
 use Rattle.vcpu_run.proofs.PlainTaking.{poll_come}
+use Rattle.vcpu_run.proofs.PlainRejected.{rejection_move}
+use Rattle.vcpu_run.specs.PlainRejected.{HasRejection}
 
 -- Either it keeps the entry, or its login was granted, behind which nothing is asked, or rejected, behind which what was answered stays.
 pub record KeptOne (granted : ℕ) (at' : Between) (asked : AskedParts) (answers : List Iu) (found : Found) : Type 0 where
@@ -48,6 +51,7 @@ pub record WasRejected (granted : ℕ) (at at' : Between) (found : Found) : Type
   pub reason : ℕ
   pub found_is : found ≡ Rejected reason
   pub reason_is : reason ≡ UNABLE_TO_ESTABLISH_CHANNEL
+  pub laid : HasRejection at'.unit.id reason at'.window.strokes
   pub on : is_some at.client.granted ≡ true
   pub kept : List Entry
   pub ends : EndsRejected at at' kept
@@ -157,7 +161,7 @@ took_looked granted at at' asked answers mid found calm talk takes looks stays =
         at_answer (inl (r, said, tag_is)) = inl (record {
           credits = r.delta;
           found_is = found_is ∙ ap found_in said;
-          credits_are = subst (SaysOfLogin granted) said says.says;
+          credits_are = subst (IsAnswerBy granted at.unit.id at.window) said says.says;
           off = says.known ∙ ap (λ (iu : Iu). not (is_granted iu)) said;
           ends = over;
           tabled = ap (λ (s : ClientState). s.tabled) now;
@@ -184,7 +188,9 @@ took_looked granted at at' asked answers mid found calm talk takes looks stays =
         at_answer (inr (r, said, tag_is)) = inr (record {
           reason = r.reason;
           found_is = found_is ∙ ap found_in said;
-          reason_is = subst (SaysOfLogin granted) said says.says;
+          reason_is = (subst (IsAnswerBy granted at.unit.id at.window) said says.says).0;
+          laid = rejection_move at.unit.id at'.unit.id r.reason at.window.strokes at'.window.strokes (ap (λ (u : Unit). u.id) stays.unit) left.keeps.strokes
+              (subst (IsAnswerBy granted at.unit.id at.window) said says.says).1;
           on = says.known ∙ ap (λ (iu : Iu). not (is_granted iu)) said;
           kept = at.client.kept;
           ends = over;

@@ -84,7 +84,7 @@ tells_login granted at asked answers kept entry come talk is login window left s
     own = left.own;
     within = is_ask.slot_is;
     bytes = is.has.bytes;
-    stand = left.keeps is.ask.slot is.has.bytes is_ask.slot_is tt is.has.whole is.has.stand;
+    stand = left.keeps.slots is.ask.slot is.has.bytes is_ask.slot_is tt is.has.whole is.has.stand;
     whole = is.has.whole;
     spelled = is.has.spelled;
   };

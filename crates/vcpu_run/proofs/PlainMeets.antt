@@ -26,7 +26,7 @@ use Rattle.vscsi_client.specs.declared.outgoing.Outgoing.{Outgoing}
 use Rattle.vscsi_client.specs.declared.stage.Due.{Due}
 use Rattle.vscsi_client.specs.declared.stage.Stage.TheVariants.{Idle}
 use Rattle.vscsi_client.specs.declared.stage.Stage.{Stage}
-use Rattle.vcpu_run.specs.PlainTalk.{ArePending, Ask, Between, DataLies, HaveAnswers, HearsOfClient, IsAsk, IsBeginning, IsCalm, IsTalking, SaysOfLogin, ServerStays, is_logout, is_sent, login_name, StartsAt}
+use Rattle.vcpu_run.specs.PlainTalk.{ArePending, Ask, Between, DataLies, HaveAnswers, HearsOfClient, IsAsk, IsBeginning, IsCalm, IsTalking, IsAnswerBy, ServerStays, is_logout, is_sent, login_name, StartsAt}
 use Rattle.vcpu_run.proofs.PlainLooked.{some_same, takes_on}
 use Rattle.vcpu_run.proofs.PlainTaking.{poll_come}
 
@@ -116,7 +116,7 @@ meets_plainly granted at at' mid found begun takes looks stays = by begun.heard
           before = λ no'. ap is_some known ∙ sym off;
           on = λ has. absurd (true≢false (sym has));
           answer = λ has. absurd (true≢false (sym has));
-          grant = All-nil (SaysOfLogin granted);
+          grant = All-nil (IsAnswerBy granted at'.unit.id at'.window);
         };
       };
     }

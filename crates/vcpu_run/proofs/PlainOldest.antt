@@ -1,5 +1,5 @@
 -- A plain client's look for an answer, against the replay of its lines.
-use Rattle.std.proofs.Common.{◌≡◌, ◌∙◌, ◌⊎◌, inl, inr, ℕ, ◌+◌, ◌≤◌, ◌++◌, Bool, true, false, true≢false, List, [], ◌∷◌, Option, append-nil, drop, is_some, length, refl, sym, ap, ap₂, subst, arith}
+use Rattle.std.proofs.Common.{◌≡◌, ◌∙◌, ◌⊎◌, inl, inr, ℕ, ◌+◌, ◌≤◌, ◌++◌, Bool, true, false, true≢false, List, [], ◌∷◌, Contains, Option, append-nil, drop, is_some, length, refl, sym, ap, ap₂, subst, arith}
 use Rattle.std.specs.Prelude.{⊤}
 use Rattle.vio_num.specs.declared.entry.Entry.{Entry}
 use Rattle.crq_session.specs.Answered.{FindsNone}
@@ -7,6 +7,7 @@ use Rattle.crq_session.specs.EndState.{OnlyReserves, OnlyTakes}
 use Rattle.srp_iu.specs.declared.response.Rsp.{Rsp}
 use Rattle.srp_iu.specs.declared.unit.Iu.{Iu}
 use Rattle.tce_window.specs.PortState.{OnlyReads}
+use Rattle.block_server.specs.Talk.{to_come}
 use Rattle.block_server.specs.declared.request.Request.{Request}
 use Rattle.vscsi_client.specs.Taking.{IsNext, Polls, TakesAs, TakesEntry, TakesNone}
 use Rattle.vscsi_client.specs.declared.answers.Taken.{Taken}
@@ -16,12 +17,15 @@ use Rattle.vscsi_client.specs.declared.stage.Stage.{Stage}
 use Rattle.vcpu_run.specs.PlainSteps.{AreReplayedAs, FollowsReplay, HasToDo}
 use Rattle.vcpu_run.specs.PlainTalk.{ArePending, Ask, AskedParts, Between, InPhase, IsOwnWindow, IsTalking, ServerStays, TalksPlainly, all_asked, awaited, login_name, names_of, client_ports}
 use Rattle.vcpu_run.specs.Replay.{Asked as Replayed, Replay, answered}
+use Rattle.vcpu_run.proofs.LinesShown.{contains_first}
+use Rattle.vcpu_run.proofs.PlainAreLaid.{IsTakenLaid, takes_laid, talk_laid}
 use Rattle.vcpu_run.proofs.PlainAsking.{follows_still}
 use Rattle.vcpu_run.proofs.PlainAsks.{none_coming}
 use Rattle.vcpu_run.proofs.PlainPuts.{LeavesWindow}
 use Rattle.vcpu_run.proofs.PlainSlots.{keeps_same}
 use Rattle.vcpu_run.proofs.PlainStill.{calm_still, plainly_still, reads_leave, all_true}
 use Rattle.vcpu_run.proofs.PlainTakes.{TakesHead}
+use Rattle.vcpu_run.proofs.PlainTaking.{next_entries}
 use Rattle.vcpu_run.proofs.PlainTook.{TookAnswer, TookNoAnswer, takes_plainly, takes_tabled}
 use Rattle.vcpu_run.proofs.PlainTurns.{come_same}
 use Rattle.vcpu_run.proofs.PlainData.{data_kept}
@@ -204,3 +208,22 @@ take_leaves granted now at at' taken talks follows stays takes only reads = by t
     by (inr (inl begun)) = absurd (follows.settled begun.handshake)
     by (inr (inr (asked, answers, talk))) =
         found asked answers talk (takes_plainly granted at at' asked answers taken talks.calm talk follows.login takes only reads stays)
+
+-- An answer that it takes was laid by its server unit.
+pub leaves_laid : (granted : ℕ) (now : Replay) (at at' : Between) (taken : Taken) → TalksPlainly granted at [] → FollowsReplay granted now at
+    → TakesEntry at.client at'.client (client_ports at) (client_ports at') taken → OnlyTakes false at.own at'.own → OnlyReads false at.window at'.window → IsTakenLaid taken at'.window
+leaves_laid granted now at at' (takens.Answer tag response) talks follows takes only reads = by talks.phase
+  where
+    by : InPhase granted at [] → IsTakenLaid (takens.Answer tag response) at'.window
+    by (inl away) = absurd (away_some at at' (takens.Answer tag response) away.registered (follows.fresh away.registered) takes)
+    by (inr (inl begun)) = absurd (follows.settled begun.handshake)
+    by (inr (inr (asked, answers, talk))) =
+        takes_laid at at' (takens.Answer tag response) (at.client.kept ++ to_come at.own) (talk_laid granted at [] asked answers talks.calm.usable talk) takes
+        (subst (λ (list : List Entry). Contains list takes.fetched.entry)
+        (sym (next_entries at.client.kept at.own at'.own takes.fetched.entry takes.fetched.rest takes.fetched.next only))
+        (contains_first takes.fetched.entry (takes.fetched.rest ++ to_come at'.own))) reads
+leaves_laid granted now at at' (takens.Stray tag) talks follows takes only reads = tt
+leaves_laid granted now at at' takens.Lost talks follows takes only reads = tt
+leaves_laid granted now at at' takens.Other talks follows takes only reads = tt
+leaves_laid granted now at at' (takens.Again page word) talks follows takes only reads = tt
+leaves_laid granted now at at' (takens.Empty number) talks follows takes only reads = tt

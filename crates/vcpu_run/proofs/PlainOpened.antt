@@ -73,10 +73,11 @@ ends_new link slots_a slots_b new = record {
 -- ---- the pair
 
 pub opened_new : (pair : Pair) (driver : Driver) (unit server : UnitId) (pages queue_a queue_b : ℕ) → IsNewLink pair.link (256 * queue_a) (256 * queue_b) → 1 ≤ queue_a → 1 ≤ queue_b
-    → pair.window ≡ new_window unit pages → 14 ≤ pages → pages ≤ 256 → driver.unit ≡ unit → driver.client ≡ new_client unit server → IsOpened pair driver
-opened_new pair driver unit server pages queue_a queue_b new some_a some_b window least most unit_is client = record {
+    → pair.window ≡ new_window unit pages → 14 ≤ pages → pages ≤ 256 → driver.unit ≡ unit → driver.client ≡ new_client unit server → driver.answers.items ≡ [] → IsOpened pair driver
+opened_new pair driver unit server pages queue_a queue_b new some_a some_b window least most unit_is client answers = record {
   server = server;
   client = client ∙ ap (λ (id : UnitId). new_client id server) (sym unit_is);
+  answers = answers;
   registered = new.second.unregistered;
   kept = new.second.kept;
   server_registered = new.first.unregistered;

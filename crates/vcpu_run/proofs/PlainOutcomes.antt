@@ -29,6 +29,7 @@ use Rattle.vcpu_run.proofs.PlainPauses.{MayBegin, Starts}
 use Rattle.vcpu_run.proofs.PlainRests.{Holds, LooksOn, looks_on, rest_held, rest_there}
 use Rattle.vcpu_run.proofs.PlainWalks.{Walked, no_entry}
 use Rattle.vcpu_run.proofs.PlainWalks.Walked.{BecameDue, BecamePut, BecameWritten, Holding, Resting, Sticking}
+use Rattle.vcpu_run.specs.PlainRejected.{HasRejection}
 
 -- what a line's record says of what was found
 abbrev pub outcome_of : Found → Option Outcome
@@ -42,6 +43,7 @@ pub record EndsAs (granted : ℕ) (now : Replay) (last : ℕ) (at : Between) (fo
   pub talks : TalksPlainly granted at []
   pub anew : AsksAnew last at.client []
   pub follows : FollowsReplay granted (logged_in now) at
+  pub laid : (reason : ℕ) → found ≡ Rejected reason → HasRejection at.unit.id reason at.window.strokes
 
 -- a client with no login under way finds no answer to it
 idle_finds : (s : ClientState) (entry : Entry) (old new : PortState) (found : Found) → s.login ≡ Idle → Finds false s entry old new found
@@ -61,6 +63,9 @@ idle_finds s entry old new found idle finds = by found finds
     by Answer finds = (λ credits is. cc (is), λ reason is. cc (is))
     by Nothing finds = (λ credits is. cc (is), λ reason is. cc (is))
     by (InUse page word) finds = (λ credits is. cc (is), λ reason is. cc (is))
+
+same_reason : (a b : ℕ) → Rejected a ≡ Rejected b → a ≡ b
+same_reason a b e = cc (e)
 
 held_ends : (granted line : ℕ) (now : Replay) (at : Between) (steps : List LoginStep) (m b : Site) (server : EndState) (found : Found) → Starts granted now at
     → ServerStays at (end_at at b server) → Holds granted line at steps m → Steps line (Looked found) m b → SameHands m b → ends_login found ≡ true
@@ -116,6 +121,7 @@ held_ends granted line now at steps m b server found starts stays holds looked h
               (was.tabled ∙ holds.rests.since.tabled ∙ starts.tabled);
           anew = none_anew at.client b.client (ap (λ (list : List Row). length list) (was.rows ∙ holds.rests.since.rows));
           follows = said.1;
+          laid = λ reason is. absurd (cc (was.found_is, is));
         }
 
     refused : (asked : AskedParts) (answers : List Iu) → TookOne granted at c b asked answers found → KeptApart c.client → WasRejected granted (mid_at at c) (mid_at at b) found
@@ -146,6 +152,7 @@ held_ends granted line now at steps m b server found starts stays holds looked h
               (was.tabled ∙ holds.rests.since.tabled ∙ starts.tabled);
           anew = none_anew at.client b.client (was.ends.rows ∙ ap (λ (list : List Row). length list) holds.rests.since.rows);
           follows = said.1;
+          laid = λ reason is. subst (λ (r : ℕ). HasRejection at.unit.id r b.at.own.strokes) (same_reason was.reason reason (sym was.found_is ∙ is)) was.laid;
         }
 
     by : HasMet granted (mid_at at b) found ⊎ ((asked : AskedParts) × (answers : List Iu) × TookOne granted at c b asked answers found × KeptApart c.client)

@@ -1,4 +1,5 @@
--- What a plain client is owed: a login that its server unit granted, and of which it does not know yet. It is owed none but while its login is under way.
+-- What a plain client is owed: a login that its server unit granted, and of which it does not know yet. It is owed none but while its login
+-- is under way.
 use Rattle.std.proofs.Common.{◌≡◌, ◌∙◌, ◌⊎◌, inl, inr, ℕ, ◌+◌, ◌≤◌, ◌++◌, ◌∷◌, ◌&&◌, not, nat_le, Bool, true, false, true≢false, cond, List, [], is_some, map, refl, sym, ap, arith}
 use Rattle.crq_session.specs.declared.handshake.Handshake.TheVariants.{Down, Up, Waiting}
 use Rattle.srp_iu.specs.declared.login.TheConstants.{UNABLE_TO_ESTABLISH_CHANNEL}

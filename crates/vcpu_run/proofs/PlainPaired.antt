@@ -1,4 +1,5 @@
--- A turn of a plain client's server unit, at their pair: what is so between them is so behind it, and its lines say that its client alone ends logins.
+-- A turn of a plain client's server unit, at their pair: what is so between them is so behind it, and its lines say that its client alone
+-- ends logins.
 use Rattle.std.proofs.Common.{◌≡◌, ◌≢◌, ◌∙◌, ◌+◌, ◌≤◌, ◌++◌, ◌∷◌, true≢false, IsNone, IsSomeAnd, drop, append-nil, append_assoc, inl, inr, ℕ, All, Bool, true, false, List, [], Option, Some, None, OnOk, Result, Ok, Err, length, length-append, slice_get, refl, sym, ap, ap₂, subst, arith}
 use Rattle.std.specs.Borrow.{GName}
 use Rattle.std.specs.Option.{option_map}
@@ -34,25 +35,35 @@ use Rattle.block_server.specs.declared.request.Request.{Request}
 use Rattle.block_server.specs.declared.service.Outcome.{Outcome}
 use Rattle.block_server.specs.declared.service.Outcome.TheVariants as outcomes
 use Rattle.block_server.specs.declared.unit.Unit.{Unit}
+use Rattle.vio_trace.specs.declared.rows.AnswerRow.{AnswerRow}
 use Rattle.vscsi_client.specs.State.{ClientState}
 use Rattle.vcpu_run.specs.declared.driver.Driver.{Driver}
 use Rattle.vcpu_run.specs.declared.pair.Pair.{Pair}
 use Rattle.vcpu_run.specs.Machines.{server_id}
 use Rattle.vcpu_run.specs.PlainBorne.{AreBorne, rows_by}
-use Rattle.vcpu_run.specs.PlainClients.{ends_by_client, grants_of}
+use Rattle.vcpu_run.specs.PlainClients.{ends_by_client, grants_of, granted_in}
+use Rattle.vcpu_run.specs.PlainNoted.{AreAnswers, AreAskedFor, IsLaidAnswer}
 use Rattle.vcpu_run.specs.PlainPairs.{EndByClient, IsIdleUnit, IsNewPair, IsPlainPair, IsReadyPair, ServerBooks, SparesUnit, between_of}
-use Rattle.vcpu_run.specs.PlainRows.{TagsKept, tags_by, AnswersKept}
+use Rattle.vcpu_run.specs.PlainRows.{TagsKept, tags_by, AnswersKept, EntriesKept}
 use Rattle.vcpu_run.specs.PlainTalk.{Between, ClientStays, IsCalm, IsOwnWindow, TalksPlainly, TookNoMore, owes}
 use Rattle.vcpu_run.proofs.PlainAnswered.{plainly_served}
+use Rattle.vcpu_run.proofs.PlainAnswers.{answers_served}
 use Rattle.vcpu_run.proofs.PlainBegins.{starts_plainly}
+use Rattle.vcpu_run.proofs.PlainFits.{entries_new, entries_served}
 use Rattle.vcpu_run.proofs.PlainGrants.{less_lines, owed_behind}
 use Rattle.vcpu_run.proofs.PlainOwed.{owes_none}
 use Rattle.vcpu_run.proofs.PlainGiven.{answers_behind, answers_new}
 use Rattle.vcpu_run.proofs.PlainLaid.{borne_served}
+use Rattle.vcpu_run.proofs.PlainNotes.{all_laid_on}
 use Rattle.vcpu_run.proofs.PlainReady.{talk_ready}
+use Rattle.vcpu_run.proofs.PlainRejected.{StrokesStay}
+use Rattle.vcpu_run.proofs.PlainSizes.{sizes_served}
 use Rattle.vcpu_run.proofs.PlainTags.{rows_spared, tags_new, tags_next}
 use Rattle.vcpu_run.proofs.PlainTurned.{lent_at, own_behind, talks_lent}
 use Rattle.vcpu_run.proofs.PlainTurns.{Turns}
+use Rattle.vcpu_run.specs.Credited.{Ended}
+use Rattle.vcpu_run.proofs.PlainTellings.{lines_move, serve_stays}
+use Rattle.unit_region.specs.RegionLines.{IsOn}
 
 -- ---- the ends of the link
 
@@ -231,10 +242,16 @@ tags_behind unit unit' old new lines lines' rows rows' words id last own turn on
     by (inr (request, rest, items, inl (order, out))) = served request rest items out.over.pending
     by (inr (request, rest, items, inr one)) = served request rest items one.put.over.pending
 
-served_plain : (granted told home k many : ℕ) (name : UnitId) (books books' : ServerBooks) (a b : List GName) (old new : Pair) (words : List Word) → new.driver ≡ old.driver
+-- what the client noted stays laid
+noted_on : (old new : PortState) (answers : List AnswerRow) → new.place ≡ old.place → StrokesStay old.strokes new.strokes → All (IsLaidAnswer old.place.unit old.strokes) answers
+    → All (IsLaidAnswer new.place.unit new.strokes) answers
+noted_on old new answers place stay all =
+    subst (λ (own : UnitId). All (IsLaidAnswer own new.strokes) answers) (sym (ap (λ (p : PortPlace). p.unit) place)) (all_laid_on old.place.unit old.strokes new.strokes stay answers all)
+
+served_plain : (granted : ℕ) (told : List Ended) (home k many : ℕ) (name : UnitId) (books books' : ServerBooks) (a b : List GName) (old new : Pair) (words : List Word) → name ≡ server_id home k → new.driver ≡ old.driver
     → ∥ LinesMore (server_id home k) many books.lines books'.lines ∥₁ → TurnsOn name books books' k (end_of a old.link true) (end_of b new.link true) (known_of old.window) (known_of new.window)
     → IsPlainPair granted told home books k words old → IsPlainPair granted told home books' k [] new
-served_plain granted told home k many name books books' a b old new words driver more turns plain =
+served_plain granted told home k many name books books' a b old new words called driver more turns plain =
     let at : Between = lent_at a [] (between_of plain.unit plain.driver old) in
     let talks : TalksPlainly granted at words = talks_lent a [] granted (between_of plain.unit plain.driver old) words plain.talks in
     let ready = talk_ready granted at words talks in
@@ -244,14 +261,20 @@ served_plain granted told home k many name books books' a b old new words driver
     let wrote = turns.places words plain.unit plain.there ready in
     let own : IsOwnWindow at'.window = own_behind at at' books.lines books'.lines words turn talks.calm.usable turns.window_place wrote in
     let stays = client_stays a b plain.unit on.unit' plain.driver old new turns.place turns.partner turns.put turns.took talks.calm.ends.own_took own in
+    let id : at'.unit.id ≡ at.unit.id = turns.ids plain.unit on.unit' plain.there on.there in
     let after : TalksPlainly granted at' [] =
-    plainly_served granted at at' books.lines books'.lines books.rows books'.rows name words talks turn stays turns.window_place wrote (turns.leaves words plain.unit plain.there ready) in
+    plainly_served granted at at' books.lines books'.lines books.rows books'.rows name words talks turn stays id (called ∙ sym (id ∙ plain.id))
+    (λ e. plain.apart (e ∙ id ∙ plain.id)) turns.window_place wrote
+    (turns.leaves words plain.unit plain.there ready) in
     let tags : TagsKept (tags_by (server_id home k) books'.rows) (length plain.driver.client.rows) on.unit'.pending.items =
     tags_behind plain.unit on.unit' (reach at.server at.window false) at'.server books.lines books'.lines books.rows books'.rows words (server_id home k) (length plain.driver.client.rows) plain.id turn
     (turns.rows words plain.unit plain.there ready) plain.tags in
     let answers : AnswersKept (tags_by (server_id home k) books'.rows) plain.driver.client at'.server.sent on.unit'.pending.items =
     answers_behind plain.unit on.unit' (reach at.server at.window false) at'.server books.lines books'.lines words books.rows books'.rows (server_id home k) plain.driver.client plain.id turn
     (turns.rows words plain.unit plain.there ready) plain.tags plain.answers in
+    let entries : EntriesKept (rows_by (server_id home k) books'.rows) at'.server.sent on.unit'.pending.items =
+    entries_served granted at at' books.lines books'.lines words books.rows books'.rows name (server_id home k) (length plain.driver.client.rows) talks turn stays
+    (turns.leaves words plain.unit plain.there ready) (turns.rows words plain.unit plain.there ready) plain.id plain.tags plain.entries in
     record {
       unit = on.unit';
       there = on.there;
@@ -259,17 +282,24 @@ served_plain granted told home k many name books books' a b old new words driver
       driver = plain.driver;
       driver_is = driver ∙ plain.driver_is;
       talks = talks_lent [] [] granted at' [] after;
-      owed = owed_behind (server_id home k) told many at at' books.lines books'.lines words refl stays.registered turn more plain.owed;
+      laid = lines_move at.unit.id at'.unit.id at.window.strokes at'.window.strokes id (serve_stays at at' books.lines books'.lines words turn wrote) told plain.laid;
+      owed = owed_behind (server_id home k) (granted_in told) many at at' books.lines books'.lines words refl stays.registered turn more plain.owed;
       lines = end_more (server_id home k) books.lines books'.lines (turn_ends at at' books.lines books'.lines words turn) plain.lines;
       tags = λ talk heard. subst (λ (t : Talk). TagsKept (tags_by (server_id home k) books'.rows) (length plain.driver.client.rows) t.pending) (sym heard) tags;
       answers = λ talk heard. subst (λ (t : Talk). AnswersKept (tags_by (server_id home k) books'.rows) plain.driver.client at'.server.sent t.pending) (sym heard) answers;
+      entries = λ talk heard. subst (λ (t : Talk). EntriesKept (rows_by (server_id home k) books'.rows) at'.server.sent t.pending) (sym heard) entries;
       apart = λ same. plain.apart (sym (ap (λ (place : PortPlace). place.unit) turns.window_place) ∙ same);
       borne = borne_served granted at at' books.lines books'.lines words books.rows books'.rows name (server_id home k) talks turn wrote (turns.leaves words plain.unit plain.there ready)
           (turns.rows words plain.unit plain.there ready) plain.id plain.tags plain.borne;
+      answered = answers_served granted at at' books.lines books'.lines words books.rows books'.rows name (server_id home k) talks turn stays turns.window_place wrote
+          (turns.leaves words plain.unit plain.there ready) (turns.rows words plain.unit plain.there ready) plain.id plain.answered;
+      sized = sizes_served granted at at' books.lines books'.lines words books.rows books'.rows name (server_id home k) talks turn (turns.leaves words plain.unit plain.there ready)
+          (turns.rows words plain.unit plain.there ready) plain.id plain.sized;
+      noted = noted_on at.window at'.window plain.driver.answers.items turns.window_place (serve_stays at at' books.lines books'.lines words turn wrote) plain.noted;
     }
 
 -- its first one
-opened_pair : (granted told home k : ℕ) (name : UnitId) (books books' : ServerBooks) (a b : List GName) (old new : Pair) → new.driver ≡ old.driver
+opened_pair : (granted : ℕ) (told : List Ended) (home k : ℕ) (name : UnitId) (books books' : ServerBooks) (a b : List GName) (old new : Pair) → new.driver ≡ old.driver
     → TurnsOn name books books' k (end_of a old.link true) (end_of b new.link true) (known_of old.window) (known_of new.window)
     → IsNewPair granted told home books k old → IsPlainPair granted told home books' k [] new
 opened_pair granted told home k name books books' a b old new driver turns is =
@@ -308,6 +338,8 @@ opened_pair granted told home k name books books' a b old new driver turns is =
             taking = ap (λ (l : Logins). l.taking) opens.logins ∙ made.made.taking;
             pending = opens.pending;
           }));
+      laid = lines_move is.unit.id on.unit'.id at.window.strokes at'.window.strokes opens.id
+          (λ page stroke there. subst (λ (port : PortState). IsOn stroke (port.strokes page)) (sym opens.window) there) told is.laid;
       owed =
           let none : owes (between_of on.unit' is.driver new) [] ≡ 0 = owes_none at' [] (inl (stays.registered ∙ is.new.registered)) in
           let same : grants_of (server_id home k) books'.lines ≡ grants_of (server_id home k) books.lines = ap (grants_of (server_id home k)) on.opens.lines_are in
@@ -319,20 +351,26 @@ opened_pair granted told home k name books books' a b old new driver turns is =
       answers = λ talk heard.
           answers_new (tags_by (server_id home k) books'.rows) is.driver.client at'.server.sent talk.pending (opens.sent ∙ is.sent) (ap (λ (t : Talk). t.pending) heard ∙ opens.pending)
           (ap (λ (s : ClientState). s.outgoing) is.new.client.2);
+      entries = λ talk heard. entries_new (rows_by (server_id home k) books'.rows) at'.server.sent talk.pending (opens.sent ∙ is.sent);
       apart = λ same. is.apart (sym (ap (λ (place : PortPlace). place.unit) turns.window_place) ∙ same);
       borne = subst (λ (rows : List Served). AreBorne (rows_by (server_id home k) rows) (server_id home k) is.driver.client.rows (known_of new.window).strokes) (sym on.opens.rows_are)
           (subst (λ (port : PortState). AreBorne (rows_by (server_id home k) books.rows) (server_id home k) is.driver.client.rows port.strokes) (sym opens.window) is.borne);
+      answered = subst (λ (rows : List Served). AreAnswers (rows_by (server_id home k) rows) at'.window.place.unit at'.window.strokes) (sym on.opens.rows_are)
+          (subst (λ (port : PortState). AreAnswers (rows_by (server_id home k) books.rows) port.place.unit port.strokes) (sym opens.window) is.answered);
+      sized = subst (λ (rows : List Served). AreAskedFor (rows_by (server_id home k) rows) is.driver.client.rows) (sym on.opens.rows_are) is.sized;
+      noted = noted_on at.window at'.window is.driver.answers.items turns.window_place
+          (λ page stroke there. subst (λ (port : PortState). IsOn stroke (port.strokes page)) (sym opens.window) there) is.noted;
     }
   where
     waiting_down : Waiting ≡ Down → ⊥
     waiting_down e = cc (e)
 
-pub served_pair : (granted told home k many : ℕ) (name : UnitId) (books books' : ServerBooks) (a b : List GName) (old new : Pair) → new.driver ≡ old.driver
+pub served_pair : (granted : ℕ) (told : List Ended) (home k many : ℕ) (name : UnitId) (books books' : ServerBooks) (a b : List GName) (old new : Pair) → name ≡ server_id home k → new.driver ≡ old.driver
     → ∥ LinesMore (server_id home k) many books.lines books'.lines ∥₁ → TurnsOn name books books' k (end_of a old.link true) (end_of b new.link true) (known_of old.window) (known_of new.window)
     → IsReadyPair granted told home books k old → IsPlainPair granted told home books' k [] new
-served_pair granted told home k many name books books' a b old new driver more turns (inl (words, plain)) =
-    served_plain granted told home k many name books books' a b old new words driver more turns plain
-served_pair granted told home k many name books books' a b old new driver more turns (inr is) = opened_pair granted told home k name books books' a b old new driver turns is
+served_pair granted told home k many name books books' a b old new called driver more turns (inl (words, plain)) =
+    served_plain granted told home k many name books books' a b old new words called driver more turns plain
+served_pair granted told home k many name books books' a b old new called driver more turns (inr is) = opened_pair granted told home k name books books' a b old new driver turns is
 
 -- ---- one in which nothing was done
 
@@ -376,7 +414,7 @@ same_way unit unit' is = ap (λ (w : UnderWay). w.pending) (held (under_way unit
 way_at : (units : List Unit) (k : ℕ) (unit : Unit) → slice_get units k ≡ Some unit → way_of units k ≡ Some (under_way unit)
 way_at units k unit there = ap (option_map under_way) there
 
-pub idles_pair : (granted told home k : ℕ) (name : UnitId) (books books' : ServerBooks) (a b : List GName) (old new : Pair)
+pub idles_pair : (granted : ℕ) (told : List Ended) (home k : ℕ) (name : UnitId) (books books' : ServerBooks) (a b : List GName) (old new : Pair)
     → TurnsOn name books books' k (end_of a old.link true) (end_of b new.link true) (known_of old.window) (known_of new.window) → IsStill (end_of a old.link true) (end_of b new.link true)
     → way_of books'.units k ≡ way_of books.units k → IsReadyPair granted told home books k old → IsIdleUnit k books'
 idles_pair granted told home k name books books' a b old new turns still way (inl (words, plain)) =

@@ -22,6 +22,7 @@ use Rattle.vcpu_run.proofs.PlainPaired.{idle_side, took_on}
 use Rattle.vcpu_run.proofs.PlainPuts.{LeavesWindow}
 use Rattle.vcpu_run.proofs.PlainSeated.{driver_of, server_stays, talks_at}
 use Rattle.vcpu_run.proofs.PlainStill.{all_true, plainly_still}
+use Rattle.vcpu_run.proofs.PlainTurning.{failed_still}
 use Rattle.vcpu_run.proofs.PlainTurns.{come_kept}
 
 -- Nothing changed at an end but the room for calls, and its counts.
@@ -69,7 +70,7 @@ none_kept granted unit driver pair (inr (inr (asked, answers, talk))) = idle_sid
 
 leaves_same : (old new : PortState) → new ≡ old → IsOwnWindow old → LeavesWindow (λ slot. ⊤) old new
 leaves_same old new same own =
-    subst (LeavesWindow (λ slot. ⊤) old) (sym same) (record { own = own; keeps = λ slot bytes within spares whole stand. stand })
+    subst (LeavesWindow (λ slot. ⊤) old) (sym same) (record { own = own; keeps = record { slots = λ slot bytes within spares whole stand. stand; strokes = λ page stroke is. is; unit = refl } })
 
 talks_stand : (granted : ℕ) (unit : Unit) (driver : Driver) (old new : Pair) → Drives old new → new.window ≡ old.window → StandsAt (end_of [] old.link false) (end_of [] new.link false)
     → TalksPlainly granted (between_of unit driver old) [] → TalksPlainly granted (between_of unit driver new) []
@@ -101,7 +102,10 @@ talks_pushed f g x y lent old new same first next drives driver window stands gr
     (subst (λ (d : Bool). (end_of x lent d).kept ≡ None → StandsAt (end_of x lent d) (end_of y new.link false)) first
     (subst (λ (d : Bool). (end_of x lent f).kept ≡ None → StandsAt (end_of x lent f) (end_of y new.link d)) next stands)) in
     let still = here (none_kept granted unit a old talk.phase) in
-    talks_at granted unit [] new a (driver ∙ was) (talks_stand granted unit a old new drives window (unlent x y old new still) talk)
+    let known : known_of new.window ≡ known_of old.window = ap (λ (w : WindowValue). known_of w) window in (
+      talks_at granted unit [] new a (driver ∙ was) (talks_stand granted unit a old new drives window (unlent x y old new still) talk),
+      failed_still old new driver still.registered (ap (λ (port : PortState). port.place) known) (λ page. ap (λ (port : PortState). port.strokes page) known),
+    )
   where
     unlent : (x y : List GName) (old new : Pair) → StandsAt (end_of x old.link false) (end_of y new.link false) → StandsAt (end_of [] old.link false) (end_of [] new.link false)
     unlent x y old new is = record {

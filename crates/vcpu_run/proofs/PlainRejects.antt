@@ -13,11 +13,12 @@ use Rattle.vscsi_client.specs.State.{ClientState}
 use Rattle.vscsi_client.specs.declared.outgoing.Outgoing.{Outgoing}
 use Rattle.vscsi_client.specs.declared.stage.Stage.{Stage}
 use Rattle.vscsi_client.specs.declared.stage.Stage.TheVariants.{Idle, Sent, Written}
-use Rattle.vcpu_run.specs.PlainTalk.{AreApart, CountsAsked, AreInOrder, ArePending, Ask, AskedParts, Between, DataLies, HaveAnswers, IsAsk, IsTalking, KeepsSlots, SaysOfLogin, TagsRise, all_asked, awaited, grants_one, has_login, is_granted, is_login, is_logout, is_sent, login_name, name_of, names_of, StartsAt}
+use Rattle.vcpu_run.specs.PlainTalk.{AreApart, CountsAsked, AreInOrder, ArePending, Ask, AskedParts, Between, DataLies, HaveAnswers, IsAsk, IsTalking, KeepsSlots, IsAnswerBy, TagsRise, all_asked, awaited, grants_one, has_login, is_granted, is_login, is_logout, is_sent, login_name, name_of, names_of, StartsAt}
 use Rattle.vcpu_run.proofs.PlainAsks.{all_parts, names_push}
 use Rattle.vcpu_run.proofs.PlainEnds.{IsAmong, IsLast, apart_front_all, has_login_mid, last_is, order_front, rise_front}
 use Rattle.vcpu_run.proofs.PlainLists.{answers_plain, granted_push, login_no_logout}
 use Rattle.vcpu_run.proofs.PlainServed.{all_spared, answers_move}
+use Rattle.vcpu_run.proofs.PlainRejected.{says_move}
 
 -- lists with one behind them that are equal are so without it
 front_one : (xs ys : List Outgoing) (a b : Outgoing) → xs ++ a ∷ [] ≡ ys ++ b ∷ [] → xs ≡ ys
@@ -96,7 +97,9 @@ rejected_talk granted at at' asked answers kept entry come rejection talk is log
     before = λ no'. ap is_some ends.granted ∙ on ∙ sym last.on ∙ ap (λ (u : Unit). nat_le 1 u.logins.current) (sym ends.unit);
     on = λ has. absurd (true≢false (sym has ∙ last.no_login));
     answer = λ has. absurd (true≢false (sym has ∙ last.no_login));
-    grant = (all_parts (SaysOfLogin granted) is.before (is.answer ∷ is.later) (subst (All (SaysOfLogin granted)) is.answers_are talk.login.grant)).0;
+    grant = says_move granted at.unit.id at'.unit.id at.window at'.window (ap (λ (u : Unit). u.id) ends.unit) ends.keeps.unit ends.keeps.strokes is.before
+        (all_parts (IsAnswerBy granted at.unit.id at.window) is.before (is.answer ∷ is.later)
+        (subst (All (IsAnswerBy granted at.unit.id at.window)) is.answers_are talk.login.grant)).0;
   };
 }
   where

@@ -23,43 +23,43 @@ abbrev ports_by : (crq_shared own_shared : Bool) → Own → Ports
 ports_by crq_shared own_shared own = ports crq_shared own.end own_shared own.window
 
 pub command_plainly : (crq_shared own_shared : Bool) (line : ℕ) (op : Op) (old new : Own) (answer : Result ℕ Refused) (result : Result Step NoMemory)
-    → SaysSent answer result → IfErr answer (λ x. SaysWhy x result) → IfErr answer (λ x. x ≡ whys.NoMemory → IsErr result)
+    → new.answers ≡ old.answers → SaysSent answer result → IfErr answer (λ x. SaysWhy x result) → IfErr answer (λ x. x ≡ whys.NoMemory → IsErr result)
     → IfSome (command_refusal old.window.place.size old.client op) (λ x. (answer ≡ Err x) × (new.client ≡ old.client) × (new.end ≡ old.end) × (new.window ≡ old.window))
     → IfOk answer (Submitted line op old.client new.client (ports_by crq_shared own_shared old) (ports_by crq_shared own_shared new))
     → (command_refusal old.window.place.size old.client op ≡ None
     → IfErr answer (WhyNotSubmitted line op old.client new.client (ports_by crq_shared own_shared old) (ports_by crq_shared own_shared new)))
     → OnlySends crq_shared old.end new.end → OnlyWrites old.window new.window → crq_shared ≡ false → own_shared ≡ false
     → (verb : Verb) (p : Progress) → IsOpOf verb op → FitsOp op → StepsPlainly verb p p old new result
-command_plainly false false line op old new answer result says reason memory refused submitted why_not sends wrote crq_alone own_alone =
+command_plainly false false line op old new answer result noted says reason memory refused submitted why_not sends wrote crq_alone own_alone =
     λ verb p is fits plain granted unit server server' now spares stays talks come.
-    command_on granted line verb p op now (beside unit server old) (beside unit server' new) answer result is fits talks come stays sends wrote says reason memory refused submitted why_not
-command_plainly true own_shared line op old new answer result says reason memory refused submitted why_not sends wrote crq_alone own_alone = absurd (true≢false crq_alone)
-command_plainly false true line op old new answer result says reason memory refused submitted why_not sends wrote crq_alone own_alone = absurd (true≢false own_alone)
+    command_on granted line verb p op now (beside unit server old) (beside unit server' new) old.answers new.answers answer result noted is fits talks come stays sends wrote says reason memory refused submitted why_not
+command_plainly true own_shared line op old new answer result noted says reason memory refused submitted why_not sends wrote crq_alone own_alone = absurd (true≢false crq_alone)
+command_plainly false true line op old new answer result noted says reason memory refused submitted why_not sends wrote crq_alone own_alone = absurd (true≢false own_alone)
 
 pub task_plainly : (crq_shared own_shared : Bool) (line function task : ℕ) (old new : Own) (answer : Result ℕ Refused) (result : Result Step NoMemory)
-    → SaysSent answer result → IfErr answer (λ x. SaysWhy x result) → IfErr answer (λ x. x ≡ whys.NoMemory → IsErr result)
+    → new.answers ≡ old.answers → SaysSent answer result → IfErr answer (λ x. SaysWhy x result) → IfErr answer (λ x. x ≡ whys.NoMemory → IsErr result)
     → IfSome (task_refusal old.client) (λ x. (answer ≡ Err x) × (new.end ≡ old.end) × (new.window ≡ old.window)) → OnErr answer (new.client ≡ old.client)
     → IfOk answer (Tasked line function task old.client new.client (ports_by crq_shared own_shared old) (ports_by crq_shared own_shared new))
     → (task_refusal old.client ≡ None
     → IfErr answer (WhyNotSent line old.client (task_unit function task old.client) (ports_by crq_shared own_shared old) (ports_by crq_shared own_shared new)))
     → OnlySends crq_shared old.end new.end → OnlyWrites old.window new.window → crq_shared ≡ false → own_shared ≡ false
     → (p : Progress) → StepsPlainly (verbs.Task function task) p p old new result
-task_plainly false false line function task old new answer result says reason memory refused same tasked why_not sends wrote crq_alone own_alone =
+task_plainly false false line function task old new answer result noted says reason memory refused same tasked why_not sends wrote crq_alone own_alone =
     λ p plain granted unit server server' now spares stays talks come.
-    task_on granted line function task p now (beside unit server old) (beside unit server' new) answer result talks come stays sends wrote says reason memory refused same tasked why_not
-task_plainly true own_shared line function task old new answer result says reason memory refused same tasked why_not sends wrote crq_alone own_alone = absurd (true≢false crq_alone)
-task_plainly false true line function task old new answer result says reason memory refused same tasked why_not sends wrote crq_alone own_alone = absurd (true≢false own_alone)
+    task_on granted line function task p now (beside unit server old) (beside unit server' new) old.answers new.answers answer result noted talks come stays sends wrote says reason memory refused same tasked why_not
+task_plainly true own_shared line function task old new answer result noted says reason memory refused same tasked why_not sends wrote crq_alone own_alone = absurd (true≢false crq_alone)
+task_plainly false true line function task old new answer result noted says reason memory refused same tasked why_not sends wrote crq_alone own_alone = absurd (true≢false own_alone)
 
 pub logout_plainly : (crq_shared own_shared : Bool) (line : ℕ) (old new : Own) (answer : Result ℕ Refused) (result : Result Step NoMemory)
-    → SaysSent answer result → IfErr answer (λ x. SaysWhy x result) → IfErr answer (λ x. x ≡ whys.NoMemory → IsErr result)
+    → new.answers ≡ old.answers → SaysSent answer result → IfErr answer (λ x. SaysWhy x result) → IfErr answer (λ x. x ≡ whys.NoMemory → IsErr result)
     → IfSome (logout_refusal old.client) (λ x. (answer ≡ Err x) × (new.end ≡ old.end) × (new.window ≡ old.window)) → OnErr answer (new.client ≡ old.client)
     → IfOk answer (LoggedOut line old.client new.client (ports_by crq_shared own_shared old) (ports_by crq_shared own_shared new))
     → (logout_refusal old.client ≡ None
     → IfErr answer (WhyNotSent line old.client (logout_unit old.client) (ports_by crq_shared own_shared old) (ports_by crq_shared own_shared new)))
     → OnlySends crq_shared old.end new.end → OnlyWrites old.window new.window → crq_shared ≡ false → own_shared ≡ false
     → (p : Progress) → StepsPlainly verbs.Logout p p old new result
-logout_plainly false false line old new answer result says reason memory refused same logged why_not sends wrote crq_alone own_alone =
+logout_plainly false false line old new answer result noted says reason memory refused same logged why_not sends wrote crq_alone own_alone =
     λ p plain granted unit server server' now spares stays talks come.
-    logout_on granted line p now (beside unit server old) (beside unit server' new) answer result talks come stays sends wrote says reason memory refused same logged why_not
-logout_plainly true own_shared line old new answer result says reason memory refused same logged why_not sends wrote crq_alone own_alone = absurd (true≢false crq_alone)
-logout_plainly false true line old new answer result says reason memory refused same logged why_not sends wrote crq_alone own_alone = absurd (true≢false own_alone)
+    logout_on granted line p now (beside unit server old) (beside unit server' new) old.answers new.answers answer result noted talks come stays sends wrote says reason memory refused same logged why_not
+logout_plainly true own_shared line old new answer result noted says reason memory refused same logged why_not sends wrote crq_alone own_alone = absurd (true≢false crq_alone)
+logout_plainly false true line old new answer result noted says reason memory refused same logged why_not sends wrote crq_alone own_alone = absurd (true≢false own_alone)

@@ -10,17 +10,25 @@ use Rattle.block_server.specs.declared.unit.Unit.{Unit}
 use Rattle.crq_session.specs.PlainState.{end_of}
 use Rattle.vcpu_run.specs.Machines.{server_id}
 use Rattle.vcpu_run.specs.PlainBorne.{AreBorne}
-use Rattle.vcpu_run.specs.PlainPairs.{IdlesPlainly, IdlesPlainlyAt, IsIdleUnit, IsNewPair, IsPlainAt, IsPlainPair, IsReadyAt, IsReadyPair, ServerBooks, ServesPlainly, ServesPlainlyAt, SparesUnit}
-use Rattle.vcpu_run.specs.PlainRows.{AnswersKept, TagsKept}
-use Rattle.vcpu_run.proofs.Driving.{get_set_same, same_or}
+use Rattle.vcpu_run.specs.PlainNoted.{AreAnswers, AreAskedFor}
+use Rattle.vcpu_run.specs.PlainPairs.{IdlesPlainly, IdlesPlainlyAt, IsIdleUnit, IsNewPair, IsPlainAt, IsPlainPair, IsReadyAt, IsReadyPair, LeavesAway, LeavesAwayAt, ServerBooks, ServesPlainly, ServesPlainlyAt, SparesUnit}
+use Rattle.vcpu_run.specs.PlainRows.{AnswersKept, EntriesKept, TagsKept}
+use Rattle.vcpu_run.proofs.Driving.{get_set_same, same_or, some_is}
+use Rattle.vcpu_run.specs.Credited.{Ended}
 
 -- ---- one turn
 
 pub served_at : (home : ℕ) (books books' : ServerBooks) (pairs : List Pair) (n : ℕ) (old new : Pair) → n < length pairs → slice_get pairs n ≡ Some old
     → ServesPlainly home books books' n old new → ServesPlainlyAt home books books' pairs (slice_set pairs n new) n
-served_at home books books' pairs n old new less found serves granted told ready =
-    subst (λ (o : Option Pair). IsSomeAnd o (IsPlainPair granted told home books' n [])) (sym (get_set_same pairs n new less))
-    (serves granted told (subst (λ (o : Option Pair). IsSomeAnd o (IsReadyPair granted told home books n)) found ready))
+served_at home books books' pairs n old new less found serves granted told ready = (
+  subst (λ (o : Option Pair). IsSomeAnd o (IsPlainPair granted told home books' n [])) (sym (get_set_same pairs n new less)) served.0,
+  λ before after was now.
+      subst (λ (pair : Pair). LeavesAway pair after) (some_is old before (sym found ∙ was))
+      (subst (LeavesAway old) (some_is new after (sym (get_set_same pairs n new less) ∙ now)) served.1),
+)
+  where
+    served : IsPlainPair granted told home books' n [] new × LeavesAway old new
+    served = serves granted told (subst (λ (o : Option Pair). IsSomeAnd o (IsReadyPair granted told home books n)) found ready)
 
 pub idled_at : (home : ℕ) (books books' : ServerBooks) (pairs : List Pair) (n : ℕ) (old : Pair) → slice_get pairs n ≡ Some old → IdlesPlainly home books books' n old
     → IdlesPlainlyAt home books books' pairs n
@@ -29,7 +37,7 @@ idled_at home books books' pairs n old found idles granted told ready =
 
 -- ---- a turn of another unit
 
-plain_spared : (granted told home : ℕ) (books books' : ServerBooks) (k : ℕ) (words : List Word) (pair : Pair) → SparesUnit home books books' k → IsPlainPair granted told home books k words pair
+plain_spared : (granted : ℕ) (told : List Ended) (home : ℕ) (books books' : ServerBooks) (k : ℕ) (words : List Word) (pair : Pair) → SparesUnit home books books' k → IsPlainPair granted told home books k words pair
     → IsPlainPair granted told home books' k words pair
 plain_spared granted told home books books' k words pair spares is = record {
   unit = is.unit;
@@ -39,14 +47,19 @@ plain_spared granted told home books books' k words pair spares is = record {
   driver_is = is.driver_is;
   talks = is.talks;
   owed = omega (arith, spares.grants, is.owed);
+  laid = is.laid;
   lines = spares.lines is.lines;
   tags = λ talk heard. subst (λ (tags : List ℕ). TagsKept tags (length is.driver.client.rows) talk.pending) (sym (ap (map row_tag) spares.rows)) (is.tags talk heard);
   answers = λ talk heard. subst (λ (tags : List ℕ). AnswersKept tags is.driver.client (end_of [] pair.link true).sent talk.pending) (sym (ap (map row_tag) spares.rows)) (is.answers talk heard);
+  entries = λ talk heard. subst (λ (list : List Served). EntriesKept list (end_of [] pair.link true).sent talk.pending) (sym spares.rows) (is.entries talk heard);
   apart = is.apart;
   borne = subst (λ (list : List Served). AreBorne list (server_id home k) is.driver.client.rows (known_of pair.window).strokes) (sym spares.rows) is.borne;
+  answered = subst (λ (list : List Served). AreAnswers list pair.window.unit (known_of pair.window).strokes) (sym spares.rows) is.answered;
+  sized = subst (λ (list : List Served). AreAskedFor list is.driver.client.rows) (sym spares.rows) is.sized;
+  noted = is.noted;
 }
 
-new_spared : (granted told home : ℕ) (books books' : ServerBooks) (k : ℕ) (pair : Pair) → SparesUnit home books books' k → IsNewPair granted told home books k pair → IsNewPair granted told home books' k pair
+new_spared : (granted : ℕ) (told : List Ended) (home : ℕ) (books books' : ServerBooks) (k : ℕ) (pair : Pair) → SparesUnit home books books' k → IsNewPair granted told home books k pair → IsNewPair granted told home books' k pair
 new_spared granted told home books books' k pair spares is = record {
   unit = is.unit;
   there = spares.same ∙ is.there;
@@ -55,14 +68,18 @@ new_spared granted told home books books' k pair spares is = record {
   driver_is = is.driver_is;
   new = is.new;
   owed = omega (arith, spares.grants, is.owed);
+  laid = is.laid;
   lines = spares.lines is.lines;
   tags = ap (map row_tag) spares.rows ∙ is.tags;
   sent = is.sent;
   apart = is.apart;
   borne = subst (λ (list : List Served). AreBorne list (server_id home k) is.driver.client.rows (known_of pair.window).strokes) (sym spares.rows) is.borne;
+  answered = subst (λ (list : List Served). AreAnswers list pair.window.unit (known_of pair.window).strokes) (sym spares.rows) is.answered;
+  sized = subst (λ (list : List Served). AreAskedFor list is.driver.client.rows) (sym spares.rows) is.sized;
+  noted = is.noted;
 }
 
-ready_spared : (granted told home : ℕ) (books books' : ServerBooks) (k : ℕ) (pair : Pair) → SparesUnit home books books' k → IsReadyPair granted told home books k pair → IsReadyPair granted told home books' k pair
+ready_spared : (granted : ℕ) (told : List Ended) (home : ℕ) (books books' : ServerBooks) (k : ℕ) (pair : Pair) → SparesUnit home books books' k → IsReadyPair granted told home books k pair → IsReadyPair granted told home books' k pair
 ready_spared granted told home books books' k pair spares (inl (words, plain)) = inl (words, plain_spared granted told home books books' k words pair spares plain)
 ready_spared granted told home books books' k pair spares (inr is) = inr (new_spared granted told home books books' k pair spares is)
 
@@ -70,20 +87,20 @@ some_map : {X : Type 0} (P Q : X → Type 0) (o : Option X) → ((x : X) → P x
 some_map P Q None step is = absurd is
 some_map P Q (Some x) step is = step x is
 
-pub plain_else : (granted told home : ℕ) (books books' : ServerBooks) (k : ℕ) (words : List Word) (old new : List Pair) → SparesUnit home books books' k → slice_get new k ≡ slice_get old k
+pub plain_else : (granted : ℕ) (told : List Ended) (home : ℕ) (books books' : ServerBooks) (k : ℕ) (words : List Word) (old new : List Pair) → SparesUnit home books books' k → slice_get new k ≡ slice_get old k
     → IsPlainAt granted told home books k words old → IsPlainAt granted told home books' k words new
 plain_else granted told home books books' k words old new spares same is =
     subst (λ (o : Option Pair). IsSomeAnd o (IsPlainPair granted told home books' k words)) (sym same)
     (some_map (IsPlainPair granted told home books k words) (IsPlainPair granted told home books' k words) (slice_get old k) (λ pair. plain_spared granted told home books books' k words pair spares) is)
 
-pub ready_else : (granted told home : ℕ) (books books' : ServerBooks) (k : ℕ) (old new : List Pair) → SparesUnit home books books' k → slice_get new k ≡ slice_get old k
+pub ready_else : (granted : ℕ) (told : List Ended) (home : ℕ) (books books' : ServerBooks) (k : ℕ) (old new : List Pair) → SparesUnit home books books' k → slice_get new k ≡ slice_get old k
     → IsReadyAt granted told home books k old → IsReadyAt granted told home books' k new
 ready_else granted told home books books' k old new spares same is =
     subst (λ (o : Option Pair). IsSomeAnd o (IsReadyPair granted told home books' k)) (sym same)
     (some_map (IsReadyPair granted told home books k) (IsReadyPair granted told home books' k) (slice_get old k) (λ pair. ready_spared granted told home books books' k pair spares) is)
 
 -- a pair that is plain is one before a turn
-pub plain_ready : (granted told home : ℕ) (books : ServerBooks) (k : ℕ) (words : List Word) (pairs : List Pair) → IsPlainAt granted told home books k words pairs → IsReadyAt granted told home books k pairs
+pub plain_ready : (granted : ℕ) (told : List Ended) (home : ℕ) (books : ServerBooks) (k : ℕ) (words : List Word) (pairs : List Pair) → IsPlainAt granted told home books k words pairs → IsReadyAt granted told home books k pairs
 plain_ready granted told home books k words pairs = some_map (IsPlainPair granted told home books k words) (IsReadyPair granted told home books k) (slice_get pairs k) (λ pair plain. inl (words, plain))
 
 -- ---- the turns of a round
@@ -123,18 +140,22 @@ served_next n home now_home books middle books' old between new home_is to serve
     spares : (k : ℕ) → k ≢ n → SparesUnit home middle books' k
     spares k apart = subst (λ h. SparesUnit h middle books' k) home_is (spares_now k apart)
 
-    now : (k granted told : ℕ) → k ≡ n → IsReadyAt granted told home middle k between → IsPlainAt granted told home books' k [] new
+    now : (k granted : ℕ) (told : List Ended) → k ≡ n → IsReadyAt granted told home middle k between → IsPlainAt granted told home books' k [] new × LeavesAwayAt k between new
     now k granted told is ready =
-        subst (λ i. IsPlainAt granted told home books' i [] new) (sym is) (serves granted told (subst (λ i. IsReadyAt granted told home middle i between) is ready))
+        subst (λ i. IsPlainAt granted told home books' i [] new × LeavesAwayAt i between new) (sym is) (serves granted told (subst (λ i. IsReadyAt granted told home middle i between) is ready))
 
-    by : (k granted told : ℕ) → IsReadyAt granted told home books k old → k < n + 1 → (k ≡ n) ⊎ (k ≢ n) → IsPlainAt granted told home books' k [] new
+    by : (k granted : ℕ) (told : List Ended) → IsReadyAt granted told home books k old → k < n + 1 → (k ≡ n) ⊎ (k ≢ n) → IsPlainAt granted told home books' k [] new × LeavesAwayAt k old new
     by k granted told ready less (inl is) =
         let upto : n ≤ k = omega (arith, is) in
-        now k granted told is (ready_else granted told home books middle k old between (to.later k upto).0 (to.later k upto).1 ready)
+        let one = now k granted told is (ready_else granted told home books middle k old between (to.later k upto).0 (to.later k upto).1 ready) in
+        (one.0, λ before after was then'. one.1 before after ((to.later k upto).1 ∙ was) then')
     by k granted told ready less (inr apart) =
-        plain_else granted told home middle books' k [] between new (spares k apart) (same k apart) (to.before k (omega (arith, less, apart)) granted told ready)
+        let one = to.before k (omega (arith, less, apart)) granted told ready in (
+          plain_else granted told home middle books' k [] between new (spares k apart) (same k apart) one.0,
+          λ before after was then'. one.1 before after was (sym (same k apart) ∙ then'),
+        )
 
-within_pairs : (granted told home : ℕ) (books : ServerBooks) (k : ℕ) (pairs : List Pair) → IsReadyAt granted told home books k pairs → k < length pairs
+within_pairs : (granted : ℕ) (told : List Ended) (home : ℕ) (books : ServerBooks) (k : ℕ) (pairs : List Pair) → IsReadyAt granted told home books k pairs → k < length pairs
 within_pairs granted told home books k pairs is = by (slice_get pairs k) refl is
   where
     by : (o : Option Pair) → slice_get pairs k ≡ o → IsSomeAnd o (IsReadyPair granted told home books k) → k < length pairs
@@ -165,7 +186,7 @@ idled_next n home now_home books middle books' old between home_is to idled idle
     spares : (k : ℕ) → k ≢ n → SparesUnit home middle books' k
     spares k apart = subst (λ h. SparesUnit h middle books' k) home_is (spares_now k apart)
 
-    by : (k granted told : ℕ) → IsReadyAt granted told home books k old → k < n + 1 → (k ≡ n) ⊎ (k ≢ n) → IsIdleUnit k books'
+    by : (k granted : ℕ) (told : List Ended) → IsReadyAt granted told home books k old → k < n + 1 → (k ≡ n) ⊎ (k ≢ n) → IsIdleUnit k books'
     by k granted told ready less (inl is) =
         let upto : n ≤ k = omega (arith, is) in
         subst (λ i. IsIdleUnit i books') (sym is)

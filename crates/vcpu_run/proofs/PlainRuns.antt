@@ -17,14 +17,14 @@ use Rattle.vscsi_client.specs.State.{ClientState}
 use Rattle.vcpu_run.specs.Machines.{AreScripts, server_id}
 use Rattle.vcpu_run.specs.PlainBorne.{rows_by}
 use Rattle.vcpu_run.specs.PlainClients.{IsPlainClient}
-use Rattle.vcpu_run.specs.PlainPairs.{IdlesPlainlyAt, IsIdleUnit, IsPlainAt, IsPlainPair, IsReadyAt, IsReadyPair, ServerBooks, ServesPlainlyAt, between_of}
+use Rattle.vcpu_run.specs.PlainPairs.{IdlesPlainlyAt, IsIdleUnit, IsPlainAt, IsPlainPair, IsReadyAt, IsReadyPair, LeavesAway, ServerBooks, ServesPlainlyAt, between_of}
 use Rattle.vcpu_run.specs.PlainRuns.{ArePlain, ArePlainTo, ArePlainlyQuietTo, AtPlainSeats, AwaitsNoneAt, ComesBehind, NoneAwait, RestsInRound, StandsInRound}
 use Rattle.vcpu_run.specs.PlainRows.{TagsKept, tags_by}
-use Rattle.vcpu_run.specs.PlainScripts.{EndsPlainly, IsPlainSeat, NoneAwaits, PairTalks, QuietsPlainly, StandsPlainly, StandsPlainlyAt, TurnedPlainly, TurnsPlainly, rows_in, told_in}
-use Rattle.vcpu_run.specs.PlainSteps.{AsksAnew, IsNewWord}
+use Rattle.vcpu_run.specs.PlainScripts.{EndsPlainly, IsPlainSeat, NoneAwaits, PairIs, PairTalks, QuietsPlainly, StandsPlainly, StandsPlainlyAt, TurnedPlainly, TurnsPlainly, rows_in, told_in}
+use Rattle.vcpu_run.specs.PlainSteps.{AsksAnew, IsNewWord, WasFailed}
 use Rattle.vcpu_run.specs.PlainTalk.{TalksPlainly}
 use Rattle.vcpu_run.specs.Scripts.{OnlyRuns, are_servers}
-use Rattle.vcpu_run.specs.ScriptTold.{SameClients}
+use Rattle.vcpu_run.specs.ScriptTold.{SameClient, SameClients}
 use Rattle.vcpu_run.specs.declared.driver.Driver.{Driver}
 use Rattle.vcpu_run.specs.declared.pair.Pair.{Pair}
 use Rattle.vcpu_run.specs.declared.script.Script.{Script}
@@ -32,13 +32,16 @@ use Rattle.vcpu_run.specs.declared.unit_seat.Seat.{Seat}
 use Rattle.vcpu_run.proofs.Driving.{get_set_other, get_set_same, same_or, some_is}
 use Rattle.vcpu_run.proofs.Listed.{each_set, held, held_is, is_held}
 use Rattle.vcpu_run.proofs.PlainBorne.{borne_turned}
+use Rattle.vcpu_run.proofs.PlainFits.{entries_turned}
 use Rattle.vcpu_run.proofs.PlainGiven.{answers_on}
 use Rattle.vcpu_run.proofs.PlainReady.{words_few}
 use Rattle.vcpu_run.proofs.PlainRounds.{plain_ready}
-use Rattle.vcpu_run.proofs.PlainSeated.{owes_there}
+use Rattle.vcpu_run.proofs.PlainNotesKept.{answers_turned, noted_turned, sized_turned}
+use Rattle.vcpu_run.proofs.PlainSeated.{owes_there, pair_is}
 use Rattle.vcpu_run.proofs.PlainTags.{tags_asked, tags_none, tags_on}
-use Rattle.vcpu_run.proofs.PlainTurning.{clients_stand}
+use Rattle.vcpu_run.proofs.PlainTurning.{clients_stand, was_still}
 use Rattle.vcpu_run.proofs.RoundsTold.{SameSeats, others_same}
+use Rattle.vcpu_run.specs.Credited.{Ended}
 
 -- ---- scripts
 
@@ -67,19 +70,31 @@ behind_set home i n scripts script later found rest behind = record { less = beh
 
 -- ---- the server units have their turns
 
+-- a client whose partition failed is as it was
+away_stays : (before after : Pair) → SameClient before after → LeavesAway before after → PairIs WasFailed before → PairIs WasFailed after
+away_stays before after same leaves failed = by before.driver refl failed
+  where
+    by : (o : Option Driver) → before.driver ≡ o → IsSomeAnd o (λ d. (unit : Unit) → WasFailed (between_of unit d before)) → PairIs WasFailed after
+    by None e h = absurd h
+    by (Some d) e h = pair_is WasFailed after d (same.driver ∙ e) (λ unit.
+        let still = leaves (h unit).registered in
+        was_still (between_of unit d before) (between_of unit d after) refl same.queue still.0 still.1 (h unit))
+
 pub served_plainly : (granted home n : ℕ) (books books' : ServerBooks) (old new : List Pair) (scripts : List Script) → ((k : ℕ) → ServesPlainlyAt home books books' old new k) → SameClients old new
     → ArePlainTo granted home n books old scripts → ArePlainTo granted home (n + 1) books' new scripts
 served_plainly granted home n books books' old new scripts serves same plain i u k script found seat =
     let is = plain i u k script found seat in
-    let told : ℕ = told_in u script in
-    let now : IsPlainAt granted told home books' k [] new = serves k granted told is.ready in
+    let told : List Ended = told_in u script in
+    let serve = serves k granted told is.ready in
+    let now : IsPlainAt granted told home books' k [] new = serve.0 in
     let at = held (IsPlainPair granted told home books' k []) (slice_get new k) now in
     record {
       behind = is.behind;
       others = is.others;
       ready = plain_ready granted told home books' k [] new now;
       served = λ _ _. now;
-      stands = clients_stand granted u k old new script (λ none. absurd (no_pair (slice_get new k) none at.1)) same is.stands;
+      stands = clients_stand granted u k old new script (λ none. absurd (no_pair (slice_get new k) none at.1))
+          (λ before after there here. away_stays before after (held_is (λ b. SameClient b after) (slice_get old k) before there (same k after here)) (serve.1 before after there here)) same is.stands;
     }
   where
     no_pair : {pair : Pair} (o : Option Pair) → o ≡ None → o ≡ Some pair → ⊥
@@ -102,11 +117,11 @@ idled_plainly granted home n books books' old scripts here there of idles plain 
 -- ---- a script has its turn
 
 -- what of a pair is so where nothing is to come
-talks_at : (granted told home : ℕ) (books : ServerBooks) (k : ℕ) (words : List Word) (pairs : List Pair) → IsPlainAt granted told home books k words pairs
+talks_at : (granted : ℕ) (told : List Ended) (home : ℕ) (books : ServerBooks) (k : ℕ) (words : List Word) (pairs : List Pair) → IsPlainAt granted told home books k words pairs
     → (pair : Pair) × (slice_get pairs k ≡ Some pair) × IsPlainPair granted told home books k words pair
 talks_at granted told home books k words pairs = held (IsPlainPair granted told home books k words) (slice_get pairs k)
 
-pair_talks : (granted told home : ℕ) (books : ServerBooks) (k : ℕ) (words : List Word) (pair : Pair) → (is : IsPlainPair granted told home books k words pair) → PairTalks granted is.unit words pair
+pair_talks : (granted : ℕ) (told : List Ended) (home : ℕ) (books : ServerBooks) (k : ℕ) (words : List Word) (pair : Pair) → (is : IsPlainPair granted told home books k words pair) → PairTalks granted is.unit words pair
 pair_talks granted told home books k words pair is =
     is_held (λ (driver : Driver). TalksPlainly granted (between_of is.unit driver pair) words) pair.driver is.driver is.driver_is is.talks
 
@@ -154,7 +169,7 @@ drivers_at : (o p : Option Driver) (a b : Driver) → o ≡ Some a → p ≡ Som
 drivers_at o p a b was is P on = subst (λ (q : Option Driver). OnDrivers (Some a) q P) is (subst (λ (q : Option Driver). OnDrivers q p P) was on)
 
 -- the pair is one before its server unit's turn
-ready_again : (granted told home : ℕ) (books : ServerBooks) (k u : ℕ) (old new : List Pair) (script : Script) (pair : Pair) → AreDriven old new → slice_get old k ≡ Some pair
+ready_again : (granted : ℕ) (told : List Ended) (home : ℕ) (books : ServerBooks) (k u : ℕ) (old new : List Pair) (script : Script) (pair : Pair) → AreDriven old new → slice_get old k ≡ Some pair
     → (is : IsPlainPair granted told home books k [] pair) → TurnedPlainly granted told u k is.unit old new script → IsReadyAt granted (told_in u script) home books k new
 ready_again granted told home books k u old new script pair driven there is turned =
     let after = held (PairTalks granted is.unit turned.words) (slice_get new k) turned.talks in
@@ -181,6 +196,7 @@ ready_again granted told home books k u old new script pair driven there is turn
           owes_there is.unit [] pair is.driver is.driver_is,
           is.owed,
         );
+        laid = turned.laid pair after.0 there after.1 is.laid;
         lines = is.lines;
         tags = λ talk heard.
             tags_heard (tags_by (server_id home k) books.rows) (length is.driver.client.rows) (length (taken_now (end_of [] after.0.link true))) driver.0.client turned.words (talk_of is.unit) talk
@@ -190,7 +206,16 @@ ready_again granted told home books k u old new script pair driven there is turn
             is.driver.answers.items driver.0.answers.items (end_of [] pair.link true).sent (end_of [] after.0.link true).sent turned.words (talk_of is.unit) talk
             (words_few granted (between_of is.unit driver.0 after.0) turned.words driver.2.phase) anew keeps.keeps drives.got (is.tags (talk_of is.unit) refl)
             (is.answers (talk_of is.unit) refl) heard;
+        entries = λ talk heard.
+            entries_turned (rows_by (server_id home k) books.rows) (tags_by (server_id home k) books.rows) is.driver.client.rows (length (taken_now (end_of [] after.0.link true)))
+            driver.0.client (end_of [] pair.link true).sent (end_of [] after.0.link true).sent turned.words (talk_of is.unit) talk
+            (words_few granted (between_of is.unit driver.0 after.0) turned.words driver.2.phase) anew drives.got (is.answers (talk_of is.unit) refl).put
+            (is.entries (talk_of is.unit) refl) heard;
         apart = λ same. is.apart (sym drives.unit ∙ same);
+        answered = answers_turned (rows_by (server_id home k) books.rows) pair.window.unit after.0.window.unit (known_of pair.window).strokes (known_of after.0.window).strokes drives.unit drives.laid is.answered;
+        sized = sized_turned (rows_by (server_id home k) books.rows) is.driver.client driver.0.client is.driver.answers.items driver.0.answers.items keeps.keeps
+            (is.answers (talk_of is.unit) refl).asked (is.tags (talk_of is.unit) refl).most is.sized;
+        noted = noted_turned pair after.0 is.driver driver.0 is.driver_is driver.1 drives (turned.noted pair after.0 there after.1) is.noted;
         borne = borne_turned (rows_by (server_id home k) books.rows) (server_id home k) pair.window.unit is.driver.client driver.0.client is.driver.answers.items driver.0.answers.items
             (known_of pair.window).strokes (known_of after.0.window).strokes is.apart keeps.keeps (is.answers (talk_of is.unit) refl).asked drives.laid is.borne;
       },
@@ -209,7 +234,7 @@ turned_plainly granted home n books old new ports scripts script later found are
     own : IsPlainSeat script u k → StandsInRound granted home (n + 1) books new (slice_set scripts n later) n u k later
     own sits =
         let was = is n u k script found sits in
-        let told : ℕ = told_in u script in
+        let told : List Ended = told_in u script in
         let at = talks_at granted told home books k [] old (was.served was.behind.less (omega arith)) in
         let turned = turns granted u k at.2.unit sits (is_held (PairTalks granted at.2.unit []) (slice_get old k) at.0 at.1 (pair_talks granted told home books k [] at.0 at.2)) was.stands in
         record {
@@ -248,7 +273,7 @@ quieted_plainly granted home n books old new scripts script later found rest pla
     own : IsPlainSeat script u k → RestsInRound home (n + 1) books n u k later
     own sits =
         let was = is n u k script found sits in
-        let told : ℕ = told_in u script in
+        let told : List Ended = told_in u script in
         let at = talks_at granted told home books k [] old (was.served was.behind.less (omega arith)) in
         let idle : IsIdleUnit k books = (quiet n u k script found sits).idle was.behind.less in
         record {

@@ -1,6 +1,6 @@
 -- The lines of a script's plain clients go on and end as the replay of each says.
-use Rattle.std.proofs.Common.{◌≡◌, ◌≢◌, ◌∙◌, ◌⊎◌, inl, inr, ℕ, ◌+◌, ◌≤◌, ◌==◌, arith, filter, length-append, ◌++◌, cond, Bool, true, false, true≢false, List, [], ◌∷◌, Option, Some, None, Ok, IfSome, IsSomeAnd, length, refl, slice_get, sym, ap, subst, eq-eqb, eqb-true}
-use Rattle.std.proofs.lemmas.List.Elements.{filter-append}
+use Rattle.std.proofs.Common.{◌≡◌, ◌≢◌, ◌∙◌, ◌⊎◌, inl, inr, ℕ, ◌+◌, ◌≤◌, ◌==◌, arith, filter, length-append, ◌++◌, cond, Bool, true, false, true≢false, List, [], ◌∷◌, Option, Some, None, Ok, IfSome, IsSomeAnd, length, refl, slice_get, sym, ap, subst, eq-eqb, eqb-true, All}
+use Rattle.std.proofs.lemmas.List.Elements.{filter-append, All-push}
 use Rattle.vio_num.specs.declared.hypervisor.Moved.{Moved}
 use Rattle.vio_num.specs.declared.hypervisor.Moved.TheVariants.{Quiet}
 use Rattle.boot_text.specs.declared.plan.Line.{Line}
@@ -18,7 +18,7 @@ use Rattle.vcpu_run.specs.NotedOn.{AllKeepNoted}
 use Rattle.vcpu_run.specs.Pairs.{AreDriven}
 use Rattle.vcpu_run.specs.PlainClients.{IsPlainClient, granted_in}
 use Rattle.vcpu_run.specs.PlainPairs.{between_of}
-use Rattle.vcpu_run.specs.PlainScripts.{AllRestPlainly, AllTalkOn, IsPlainSeat, LinePlainly, NoneAwaits, OfUnit, PairAsks, PairIs, PairSteppedAs, PairSteppedOn, PairTalks, QuietsPlainly, StandsAt, StandsPlainly, StandsPlainlyAt, TurnedPlainly, TurnsPlainly, after_ended, awaits, owes_at, rows_in, told_in}
+use Rattle.vcpu_run.specs.PlainScripts.{AllRestPlainly, AllTalkOn, IsPlainSeat, LinePlainly, NoneAwaits, OfUnit, PairAsks, PairIs, PairNotes, PairSteppedAs, PairSteppedOn, PairTalks, QuietsPlainly, StandsAt, StandsPlainly, StandsPlainlyAt, TurnedPlainly, TurnsPlainly, after_ended, answers_in, awaits, owes_at, rows_in, told_in}
 use Rattle.vcpu_run.specs.PlainSteps.{AsksAnew, FollowsReplay, HasCome, RestsAs, granted_by}
 use Rattle.vcpu_run.specs.PlainTalk.{Between, TalksPlainly}
 use Rattle.vcpu_run.specs.PortWords.{HasNoCall}
@@ -39,10 +39,14 @@ use Rattle.vcpu_run.proofs.DataNoted.{keep_told}
 use Rattle.vcpu_run.proofs.Driving.{client_is, some_is}
 use Rattle.vcpu_run.proofs.Listed.{held, held_is, is_held}
 use Rattle.vcpu_run.proofs.PlainAsking.{none_anew}
+use Rattle.vcpu_run.proofs.PlainNotes.{notes_same}
 use Rattle.vcpu_run.proofs.PlainOwed.{one_if}
 use Rattle.vcpu_run.proofs.PlainReplayed.{after_push, line_begins, replayed_more}
 use Rattle.vcpu_run.proofs.PlainSpared.{plain_verb, spares_tables}
 use Rattle.vcpu_run.proofs.SeatPairs.{after_of, apart_seats, before_of}
+use Rattle.vcpu_run.proofs.PlainTellings.{driven_tell}
+use Rattle.vcpu_run.specs.PlainRejected.{TellsOf}
+use Rattle.tce_window.specs.PlainPort.{known_of}
 
 -- ---- at a pair
 
@@ -122,7 +126,7 @@ record StepsOwn (granted u k : ℕ) (unit : Unit) (line : Line) (p' : Progress) 
   pages : length after.window.pages ≡ length before.window.pages
   stood : StandsPlainly granted u script before
   there : slice_get old k ≡ Some before
-  on : PairSteppedOn granted unit line.verb p' (now_of granted u script before) (rows_in before.driver) (owes_at unit [] before) after step
+  on : PairSteppedOn granted unit line.verb p' (now_of granted u script before) (rows_in before.driver) (owes_at unit [] before) (answers_in before.driver) after step
 
 -- It is another's, and the client's pair is as it was.
 record StepsOther (granted u k : ℕ) (unit : Unit) (line : Line) (script : Script) (old new : List Pair) : Type 0 where
@@ -187,6 +191,17 @@ anew_at k old new before after words there here asks a b was is =
     subst (λ (pair : Pair). PairAsks (rows_in pair.driver) words b) (some_is before a (sym there ∙ was))
     (subst (λ (pair : Pair). PairAsks (rows_in before.driver) words pair) (some_is after b (sym here ∙ is)) asks)
 
+-- what it noted
+pub noted_at : (k : ℕ) (old new : List Pair) (before after : Pair) → slice_get old k ≡ Some before → slice_get new k ≡ Some after → PairNotes (answers_in before.driver) after
+    → (a b : Pair) → slice_get old k ≡ Some a → slice_get new k ≡ Some b → PairNotes (answers_in a.driver) b
+noted_at k old new before after there here notes a b was is =
+    subst (λ (pair : Pair). PairNotes (answers_in pair.driver) b) (some_is before a (sym there ∙ was))
+    (subst (λ (pair : Pair). PairNotes (answers_in before.driver) pair) (some_is after b (sym here ∙ is)) notes)
+
+-- it noted nothing
+pub notes_none : (old new : Pair) → answers_in new.driver ≡ answers_in old.driver → PairNotes (answers_in old.driver) new
+notes_none old new same = notes_same new.window.unit (known_of new.window).strokes (answers_in old.driver) (answers_in new.driver) same
+
 -- what it is told, and owed
 pub owed_at : (k told told' : ℕ) (unit : Unit) (old new : List Pair) (before after : Pair) (words : List Word) → slice_get old k ≡ Some before → slice_get new k ≡ Some after
     → told' + owes_at unit words after ≤ told + owes_at unit [] before → (a b : Pair) → slice_get old k ≡ Some a → slice_get new k ≡ Some b
@@ -228,9 +243,11 @@ waits_plainly old new script p' line did found goes suited are driven told plain
         → TurnedPlainly granted (told_in u script) u k unit old new (record script { progress = p' })
     by (inl step) = record {
       words = step.on.words;
-      owed = owed_at k (told_in u script) (told_in u script) unit old new step.before step.after step.on.words step.there step.here (omega (arith, step.on.told));
+      laid = λ before after there here. driven_tell unit.id k old new before after (told_in u script) driven there here;
+      owed = owed_at k (granted_in (told_in u script)) (granted_in (told_in u script)) unit old new step.before step.after step.on.words step.there step.here (omega (arith, step.on.told));
       talks = is_held (PairTalks granted unit step.on.words) (slice_get new k) step.after step.here step.on.talks;
       anew = anew_at k old new step.before step.after step.on.words step.there step.here step.on.anew;
+      noted = noted_at k old new step.before step.after step.there step.here step.on.noted;
       keeps = keeps;
       stands = is_held (StandsPlainly granted u (record script { progress = p' })) (slice_get new k) step.after step.here (record {
         replayed = subst (λ n. IsReplayed granted n before_lines (ended_by u script.lines.now script.logs.items)) (sym step.pages) step.stood.replayed;
@@ -240,9 +257,11 @@ waits_plainly old new script p' line did found goes suited are driven told plain
     }
     by (inr step) = record {
       words = [];
-      owed = owed_at k (told_in u script) (told_in u script) unit old new step.pair step.pair [] step.there step.here (omega arith);
+      laid = λ before after there here. driven_tell unit.id k old new before after (told_in u script) driven there here;
+      owed = owed_at k (granted_in (told_in u script)) (granted_in (told_in u script)) unit old new step.pair step.pair [] step.there step.here (omega arith);
       talks = is_held (PairTalks granted unit []) (slice_get new k) step.pair step.here step.talks;
       anew = anew_at k old new step.pair step.pair [] step.there step.here (asks_none granted unit step.pair step.talks);
+      noted = noted_at k old new step.pair step.pair step.there step.here (notes_none step.pair step.pair refl);
       keeps = keeps;
       stands = is_held (StandsPlainly granted u (record script { progress = p' })) (slice_get new k) step.pair step.here (record {
         replayed = step.stood.replayed;
@@ -350,10 +369,14 @@ ends_plainly old new script done p' line row found goes suited are driven many t
         → TurnedPlainly granted (told_in u script) u k unit old new done
     by (inr step) = record {
       words = [];
-      owed = owed_at k (told_in u script) (told_in u done) unit old new step.pair step.pair [] step.there step.here
+      laid = λ before after there here all.
+          subst (All (TellsOf unit.id (known_of after.window).strokes)) (sym (ended_other u script done line row found many lines logs step.other))
+          (driven_tell unit.id k old new before after (told_in u script) driven there here all);
+      owed = owed_at k (granted_in (told_in u script)) (granted_in (told_in u done)) unit old new step.pair step.pair [] step.there step.here
           (omega (arith, ap granted_in (ended_other u script done line row found many lines logs step.other)));
       talks = is_held (PairTalks granted unit []) (slice_get new k) step.pair step.here step.talks;
       anew = anew_at k old new step.pair step.pair [] step.there step.here (asks_none granted unit step.pair step.talks);
+      noted = noted_at k old new step.pair step.pair step.there step.here (notes_none step.pair step.pair refl);
       keeps = keeps;
       stands = is_held (StandsPlainly granted u done) (slice_get new k) step.pair step.here
           (other_ends granted u script done line row step.pair found goes many lines logs fresh step.other step.stood);
@@ -366,12 +389,17 @@ ends_plainly old new script done p' line row found goes suited are driven many t
         let follows = subst (λ n. PairIs (FollowsReplay granted (after_line granted n (after_ended granted pages before_lines ended) line.verb)) step.after) step.pages step.on.stepped.1 in
         let is : after_ended granted pages before_lines (ended ++ e ∷ []) ≡ after_line granted pages (after_ended granted pages before_lines ended) line.verb =
         after_push granted pages before_lines ended e in
-        let more : told_in u done ≡ told_in u script + granted_by (steps.Ends row.outcome) = ap granted_in own ∙ granted_more ended e in
+        let more : granted_in (told_in u done) ≡ granted_in (told_in u script) + granted_by (steps.Ends row.outcome) = ap granted_in own ∙ granted_more ended e in
         record {
           words = step.on.words;
-          owed = owed_at k (told_in u script) (told_in u done) unit old new step.before step.after step.on.words step.there step.here (omega (arith, more, step.on.told));
+          laid = λ before after there here all.
+              subst (All (TellsOf unit.id (known_of after.window).strokes)) (sym own)
+              (All-push (TellsOf unit.id (known_of after.window).strokes) ended e (driven_tell unit.id k old new before after ended driven there here all)
+              (subst (λ (pair : Pair). TellsOf unit.id (known_of pair.window).strokes e) (some_is step.after after (sym step.here ∙ here)) step.on.laid));
+          owed = owed_at k (granted_in (told_in u script)) (granted_in (told_in u done)) unit old new step.before step.after step.on.words step.there step.here (omega (arith, more, step.on.told));
           talks = is_held (PairTalks granted unit step.on.words) (slice_get new k) step.after step.here step.on.talks;
           anew = anew_at k old new step.before step.after step.on.words step.there step.here step.on.anew;
+          noted = noted_at k old new step.before step.after step.there step.here step.on.noted;
           keeps = keeps;
           stands = is_held (StandsPlainly granted u done) (slice_get new k) step.after step.here (record {
             replayed = subst (λ n. IsReplayed granted n before_lines (ended_by u done.lines.now done.logs.items)) (sym step.pages)

@@ -1,10 +1,13 @@
--- What a call at a plain client's end leaves at its pair: the server unit's end stays, but for what it received, and what the client's driver does goes on as the replay.
+-- What a call at a plain client's end leaves at its pair: the server unit's end stays, but for what it received, and what the client's
+-- driver does goes on as the replay.
 use Rattle.std.proofs.Common.{◌≡◌, ◌∙◌, ◌⊎◌, inl, inr, ℕ, ◌+◌, ◌≤◌, ◌++◌, ◌∷◌, append-nil, Bool, true, false, IsSomeAnd, List, [], Option, Some, None, OnOk, Result, Ok, Err, length, length-append, refl, sym, ap, subst, arith}
 use Rattle.std.specs.Borrow.{GName}
 use Rattle.vio_num.specs.declared.hypervisor.Moved.{Moved}
 use Rattle.vio_num.specs.declared.hypervisor.Moved.TheVariants as moves
 use Rattle.vio_num.specs.declared.memory.NoMemory.{NoMemory}
 use Rattle.vio_num.specs.declared.entry.Entry.{Entry}
+use Rattle.vio_num.specs.declared.names.UnitId.{UnitId}
+use Rattle.vio_trace.specs.declared.rows.AnswerRow.{AnswerRow}
 use Rattle.boot_text.specs.declared.verb.Verb.{Verb}
 use Rattle.crq_ring.specs.declared.rows.PipeRow.{PipeRow}
 use Rattle.crq_session.specs.PlainState.{end_of, side_of}
@@ -17,8 +20,9 @@ use Rattle.unit_region.specs.declared.step.Step.{Step}
 use Rattle.unit_region.specs.declared.step.Step.TheVariants as steps
 use Rattle.vcpu_run.specs.Agreed.{OnDrivers}
 use Rattle.vcpu_run.specs.Pairs.{Drives}
+use Rattle.vcpu_run.specs.PlainNoted.{NotesLaid}
 use Rattle.vcpu_run.specs.PlainPairs.{between_of}
-use Rattle.vcpu_run.specs.PlainScripts.{PairAsks, PairIs, PairPlainly, PairRestsPlainly, PairSteppedAs, PairTalks, owes_at, owes_to, rows_in}
+use Rattle.vcpu_run.specs.PlainScripts.{PairAsks, PairIs, PairNotes, PairPlainly, PairRestsPlainly, PairSteppedAs, PairTalks, answers_in, owes_at, owes_to, rows_in}
 use Rattle.vcpu_run.specs.PlainSeated.{DriverPlainly, IsToldSince, own_in}
 use Rattle.vcpu_run.specs.PlainSteps.{AsksAnew, FollowsReplay, HasCome, IsAsReplayed, RestsAs, RestsPlainly, StepsPlainly, granted_by, own_by}
 use Rattle.vcpu_run.specs.PlainTalk.{Between, ServerStays, TalksPlainly, TookNoMore, owes}
@@ -30,7 +34,9 @@ use Rattle.vcpu_run.proofs.Driving.{some_is}
 use Rattle.vcpu_run.proofs.PlainPaired.{took_on}
 use Rattle.vcpu_run.proofs.PlainStill.{server_still}
 use Rattle.vcpu_run.proofs.PlainAsking.{none_anew}
-use Rattle.vcpu_run.proofs.PlainThrough.{come_through, ends_through, follows_through, rests_through, steps_through}
+use Rattle.vcpu_run.proofs.PlainThrough.{come_through, follows_through, rests_through, steps_through, ends_through}
+use Rattle.vcpu_run.proofs.PlainNotes.{notes_on}
+use Rattle.vcpu_run.proofs.PlainTellings.{drives_stay, tells_told}
 
 -- ---- the driver of a pair
 
@@ -146,6 +152,20 @@ asks_at words old new a b was there is =
     subst (λ (o : Option Driver). IsSomeAnd o (λ driver. AsksAnew (rows_in old.driver) driver.client words)) (sym there)
     (subst (λ (o : Option Driver). AsksAnew (rows_in o) b.client words) (sym was) is)
 
+-- what it noted
+notes_at : (old new : Pair) (a b : Driver) → old.driver ≡ Some a → new.driver ≡ Some b → NotesLaid new.window.unit (known_of new.window).strokes a.answers.items b.answers.items
+    → PairNotes (answers_in old.driver) new
+notes_at old new a b was there is =
+    subst (λ (o : Option Driver). NotesLaid new.window.unit (known_of new.window).strokes (answers_in old.driver) (answers_in o)) (sym there)
+    (subst (λ (o : Option Driver). NotesLaid new.window.unit (known_of new.window).strokes (answers_in o) b.answers.items) (sym was) is)
+
+-- behind what it had noted
+notes_through : (old new : Pair) (a b : Driver) → old.driver ≡ Some a → new.driver ≡ Some b → Drives old new → (before : List AnswerRow) → PairNotes before old
+    → NotesLaid new.window.unit (known_of new.window).strokes a.answers.items b.answers.items → PairNotes before new
+notes_through old new a b was there drives before first next =
+    notes_on new.window.unit (known_of old.window).strokes (known_of new.window).strokes before (answers_in old.driver) (answers_in new.driver) (drives_stay old new drives)
+    (subst (λ (own : UnitId). NotesLaid own (known_of old.window).strokes before (answers_in old.driver)) (sym drives.unit) first) (notes_at old new a b was there next)
+
 pub pair_plainly : (verb : Verb) (p p' : Progress) (before after : ℕ) (old new : Pair) (step told : Step) → Drives old new → before ≡ length (side_of old.link true).queue.sent
     → after ≡ length (side_of new.link true).queue.sent → TookNoMore (end_of [] new.link false) → IsToldSince before after step told → DriverPlainly verb p p' old new (Ok step)
     → PairPlainly verb p p' old new (Ok told)
@@ -160,6 +180,8 @@ pair_plainly verb p p' before after old new step told drives first next own sinc
       talks = talks_at granted unit on.words new b there on.talks;
       anew = asks_at on.words old new a b was there on.anew;
       told = omega (arith, on.told, told_same step told since.same, owes_there unit on.words new b there, owes_there unit [] old a was);
+      laid = tells_told verb step told unit.id (known_of new.window).strokes since.same on.laid;
+      noted = notes_at old new a b was there on.noted;
       stepped = step_told granted unit verb p' now new step told went since.same
           (λ quiet. none_put granted unit a b on.words old new drives own (subst (λ n. n ≤ length (side_of old.link true).queue.sent) next
           (subst (λ n. after ≤ n) first (since.quiet quiet))) talk on.talks);
@@ -168,15 +190,15 @@ pair_plainly verb p p' before after old new step told drives first next own sinc
 -- the end that was lent is the pair's again
 pub driver_plainly : (f g : Bool) (x y : List GName) (lent : PlainLink) (old new : Pair) (a b : Driver) (verb : Verb) (p p' : Progress) (result : Result Step NoMemory)
     → old.driver ≡ Some a → new.driver ≡ Some b → lent ≡ old.link → f ≡ false → g ≡ false
-    → StepsPlainly verb p p' (own_by a.client (end_of x lent f) (known_of old.window)) (own_by b.client (end_of y new.link g) (known_of new.window)) result
+    → StepsPlainly verb p p' (own_by a.client a.answers.items (end_of x lent f) (known_of old.window)) (own_by b.client b.answers.items (end_of y new.link g) (known_of new.window)) result
     → DriverPlainly verb p p' old new result
 driver_plainly f g x y lent old new a b verb p p' result was there same first next is =
     subst (λ (o : Option Driver). OnDrivers o new.driver (λ a b. StepsPlainly verb p p' (own_in a old) (own_in b new) result)) (sym was)
     (subst (λ (o : Option Driver). OnDrivers (Some a) o (λ a b. StepsPlainly verb p p' (own_in a old) (own_in b new) result)) (sym there)
     (steps_through x y [] [] verb p p' (own_in a old) (own_in b new) result
-    (subst (λ (l : PlainLink). StepsPlainly verb p p' (own_by a.client (end_of x l false) (known_of old.window)) (own_by b.client (end_of y new.link false) (known_of new.window)) result) same
-    (subst (λ (d : Bool). StepsPlainly verb p p' (own_by a.client (end_of x lent d) (known_of old.window)) (own_by b.client (end_of y new.link false) (known_of new.window)) result) first
-    (subst (λ (d : Bool). StepsPlainly verb p p' (own_by a.client (end_of x lent f) (known_of old.window)) (own_by b.client (end_of y new.link d) (known_of new.window)) result) next is)))))
+    (subst (λ (l : PlainLink). StepsPlainly verb p p' (own_by a.client a.answers.items (end_of x l false) (known_of old.window)) (own_by b.client b.answers.items (end_of y new.link false) (known_of new.window)) result) same
+    (subst (λ (d : Bool). StepsPlainly verb p p' (own_by a.client a.answers.items (end_of x lent d) (known_of old.window)) (own_by b.client b.answers.items (end_of y new.link false) (known_of new.window)) result) first
+    (subst (λ (d : Bool). StepsPlainly verb p p' (own_by a.client a.answers.items (end_of x lent f) (known_of old.window)) (own_by b.client b.answers.items (end_of y new.link d) (known_of new.window)) result) next is)))))
 
 -- ---- taking all the rest
 
@@ -188,7 +210,7 @@ rests_all granted unit now pair driver there is =
 
 pub pair_rests : (f g : Bool) (x y : List GName) (lent : PlainLink) (old new : Pair) (a b : Driver) (result : Result Moved NoMemory) → old.driver ≡ Some a → new.driver ≡ Some b
     → lent ≡ old.link → f ≡ false → g ≡ false → Drives old new → TookNoMore (end_of [] new.link false)
-    → RestsPlainly (own_by a.client (end_of x lent f) (known_of old.window)) (own_by b.client (end_of y new.link g) (known_of new.window)) result
+    → RestsPlainly (own_by a.client a.answers.items (end_of x lent f) (known_of old.window)) (own_by b.client b.answers.items (end_of y new.link g) (known_of new.window)) result
     → OnOk result (PairRestsPlainly old new)
 pair_rests f g x y lent old new a b (Err memory) was there same first next drives own is = tt
 pair_rests f g x y lent old new a b (Ok moved) was there same first next drives own is = λ granted unit now talks follows.
@@ -196,13 +218,18 @@ pair_rests f g x y lent old new a b (Ok moved) was there same first next drives 
     subst (λ (o : Option Driver). IsSomeAnd o (λ driver. TalksPlainly granted (between_of unit driver old) [])) was talks in
     let rests : RestsPlainly (own_in a old) (own_in b new) (Ok moved) =
     rests_through x y [] [] (own_in a old) (own_in b new) (Ok moved)
-    (subst (λ (l : PlainLink). RestsPlainly (own_by a.client (end_of x l false) (known_of old.window)) (own_by b.client (end_of y new.link false) (known_of new.window)) (Ok moved)) same
-    (subst (λ (d : Bool). RestsPlainly (own_by a.client (end_of x lent d) (known_of old.window)) (own_by b.client (end_of y new.link false) (known_of new.window)) (Ok moved)) first
-    (subst (λ (d : Bool). RestsPlainly (own_by a.client (end_of x lent f) (known_of old.window)) (own_by b.client (end_of y new.link d) (known_of new.window)) (Ok moved)) next is))) in
+    (subst (λ (l : PlainLink). RestsPlainly (own_by a.client a.answers.items (end_of x l false) (known_of old.window)) (own_by b.client b.answers.items (end_of y new.link false) (known_of new.window)) (Ok moved)) same
+    (subst (λ (d : Bool). RestsPlainly (own_by a.client a.answers.items (end_of x lent d) (known_of old.window)) (own_by b.client b.answers.items (end_of y new.link false) (known_of new.window)) (Ok moved)) first
+    (subst (λ (d : Bool). RestsPlainly (own_by a.client a.answers.items (end_of x lent f) (known_of old.window)) (own_by b.client b.answers.items (end_of y new.link d) (known_of new.window)) (Ok moved)) next is))) in
     let before : RestsAs granted now (between_of unit a old) = pair_was (RestsAs granted now) old a was follows unit in
-    let (talk', later, tag, left) = rests granted unit (end_of [] old.link true) (end_of [] new.link true) now
-    (server_stays unit a b old new drives talk.calm.ends.server_took own) talk before in
-    (talks_at granted unit [] new b there talk', asks_at [] old new a b was there (none_anew a.client b.client (omega (arith, tag))), later, rests_all granted unit later new b there left)
+    let (talk', later, tag, left, notes) = rests granted unit (end_of [] old.link true) (end_of [] new.link true) now
+    (server_stays unit a b old new drives talk.calm.ends.server_took own) talk before in (
+      talks_at granted unit [] new b there talk',
+      asks_at [] old new a b was there (none_anew a.client b.client (omega (arith, tag))),
+      later,
+      rests_all granted unit later new b there left,
+      λ before first. notes_through old new a b was there drives before first notes,
+    )
 
 -- what is so of a step that says it did nothing as of one that did something is so of a step as it is told
 pub since_keeps : (P : Step → Type 0) (before now : ℕ) (step told : Step) → (P (steps.Waits moves.Quiet) → P (steps.Waits moves.Moved)) → IsToldSince before now step told → P step → P told

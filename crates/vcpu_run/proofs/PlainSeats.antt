@@ -54,7 +54,7 @@ each_ok R (Err e) pairs i old new same here is = tt
 -- ---- taking all the rest, and putting events
 
 rests_same : (pair : Pair) → PairRestsPlainly pair pair
-rests_same pair granted unit now talks follows = (talks, asks_none granted unit pair talks, now, follows)
+rests_same pair granted unit now talks follows = (talks, asks_none granted unit pair talks, now, follows, λ before notes. notes)
 
 -- nothing was asked twice
 none_then : (last : ℕ) (b c : Pair) → PairAsks last [] b → PairAsks (rows_in b.driver) [] c → PairAsks last [] c
@@ -68,15 +68,17 @@ none_then last b c = by b.driver c.driver
 
 rests_then : (a b c : Pair) → PairRestsPlainly a b → PairRestsPlainly b c → PairRestsPlainly a c
 rests_then a b c first next granted unit now talks follows =
-    let (talks', asks, later, left) = first granted unit now talks follows in
-    let (talks'', asks', last, left') = next granted unit later talks' left in
-    (talks'', none_then (rows_in a.driver) b c asks asks', last, left')
+    let (talks', asks, later, left, notes) = first granted unit now talks follows in
+    let (talks'', asks', last, left', notes') = next granted unit later talks' left in
+    (talks'', none_then (rows_in a.driver) b c asks asks', last, left', λ before was. notes' before (notes before was))
 
 talks_same : (pair : Pair) → PairTalksOn pair pair
-talks_same pair granted unit talks = talks
+talks_same pair granted unit talks = (talks, λ failed. failed)
 
 talks_then : (a b c : Pair) → PairTalksOn a b → PairTalksOn b c → PairTalksOn a c
-talks_then a b c first next granted unit talks = next granted unit (first granted unit talks)
+talks_then a b c first next granted unit talks =
+    let one = first granted unit talks in
+    let two = next granted unit one.0 in (two.0, λ failed. two.1 (one.1 failed))
 
 pub all_rest_same : (pairs : List Pair) → AllRestPlainly pairs pairs
 all_rest_same pairs = each_same PairRestsPlainly pairs rests_same
@@ -91,7 +93,7 @@ all_rest_ok r pairs i old new = each_ok PairRestsPlainly r pairs i old new rests
 -- ---- the partition fails
 
 fails_same : (pair : Pair) → PairFailsPlainly pair pair
-fails_same pair granted unit words talks may = record { later = words; talks = talks; said = inl refl; rows = refl; left = inl (refl, refl) }
+fails_same pair granted unit words talks may = record { later = words; talks = talks; said = inl refl; rows = refl; answers = refl; left = inl (refl, refl) }
 
 fails_then : (a b c : Pair) → PairFailsPlainly a b → PairFailsPlainly b c → PairFailsPlainly a c
 fails_then a b c first next granted unit words talks may = record {
@@ -99,6 +101,7 @@ fails_then a b c first next granted unit words talks may = record {
   talks = two.talks;
   said = said two.said one.said;
   rows = two.rows ∙ one.rows;
+  answers = two.answers ∙ one.answers;
   left = left two.left one.left;
 }
   where

@@ -14,6 +14,7 @@ use Rattle.boot_text.specs.declared.verb.Verb.{Verb}
 use Rattle.boot_text.specs.declared.verb.Verb.TheVariants as verbs
 use Rattle.unit_region.specs.declared.step.Step.{Step}
 use Rattle.vio_trace.specs.declared.outcome.Outcome.{Outcome}
+use Rattle.vio_trace.specs.declared.rows.AnswerRow.{AnswerRow}
 use Rattle.vscsi_client.specs.Sending.{LoggedOut, Submitted, Tasked, WhyNotSent, WhyNotSubmitted, command_refusal, logout_refusal as logout_why, logout_refused_by, logout_unit, refused_by, request_of, task_of, task_refusal, task_unit}
 use Rattle.vscsi_client.specs.Spans.{data_span, first_sharing, has_page_of, meets, no_pages, op_in_range, table_span}
 use Rattle.vscsi_client.specs.State.{ClientState, next_tag}
@@ -193,15 +194,15 @@ sends_unless granted pages verbs.Fail now is = absurd (true≢false (sym is))
 
 -- ---- a command
 
-pub command_on : (granted line : ℕ) (verb : Verb) (p : Progress) (op : Op) (now : Replay) (at at' : Between) (answer : Result ℕ Refused) (result : Result Step NoMemory)
-    → IsOpOf verb op → FitsOp op → TalksPlainly granted at [] → HasCome granted verb p now at → ServerStays at at' → OnlySends false at.own at'.own → OnlyWrites at.window at'.window
+pub command_on : (granted line : ℕ) (verb : Verb) (p : Progress) (op : Op) (now : Replay) (at at' : Between) (before after : List AnswerRow) (answer : Result ℕ Refused) (result : Result Step NoMemory)
+    → after ≡ before → IsOpOf verb op → FitsOp op → TalksPlainly granted at [] → HasCome granted verb p now at → ServerStays at at' → OnlySends false at.own at'.own → OnlyWrites at.window at'.window
     → SaysSent answer result → IfErr answer (λ x. SaysWhy x result) → IfErr answer (λ x. x ≡ whys.NoMemory → IsErr result)
     → IfSome (command_refusal at.window.place.size at.client op) (λ x. (answer ≡ Err x) × (at'.client ≡ at.client) × (at'.own ≡ at.own) × (at'.window ≡ at.window))
     → IfOk answer (Submitted line op at.client at'.client (client_ports at) (client_ports at'))
     → (command_refusal at.window.place.size at.client op ≡ None → IfErr answer (WhyNotSubmitted line op at.client at'.client (client_ports at) (client_ports at')))
-    → IfOk result (StepsOn granted verb p now (length at.client.rows) (owes at []) at')
-command_on granted line verb p op now at at' answer result is fits talks come stays sends wrote says reason memory refused submitted why_not =
-    asks_on granted verb p now sent at at' why answer result
+    → IfOk result (StepsOn granted verb p now (length at.client.rows) (owes at []) before after at')
+command_on granted line verb p op now at at' before after answer result noted is fits talks come stays sends wrote says reason memory refused submitted why_not =
+    asks_on granted verb p now sent at at' before after why answer result noted
     (subst (λ (o : Option Outcome). SendsUnless granted pages verb now o sent) (sym as_replayed) unless) talks holds stays wrote.place
     (record { says = λ x. speaks why x spoken; refused = refused; went = went; unsent = unsent }) says reason memory
   where
@@ -277,15 +278,15 @@ both_stay (Some x) answer at at' refused same =
 
 -- ---- a task
 
-pub task_on : (granted line function task : ℕ) (p : Progress) (now : Replay) (at at' : Between) (answer : Result ℕ Refused) (result : Result Step NoMemory) → TalksPlainly granted at []
+pub task_on : (granted line function task : ℕ) (p : Progress) (now : Replay) (at at' : Between) (before after : List AnswerRow) (answer : Result ℕ Refused) (result : Result Step NoMemory) → after ≡ before → TalksPlainly granted at []
     → HasCome granted (verbs.Task function task) p now at → ServerStays at at' → OnlySends false at.own at'.own → OnlyWrites at.window at'.window
     → SaysSent answer result → IfErr answer (λ x. SaysWhy x result) → IfErr answer (λ x. x ≡ whys.NoMemory → IsErr result)
     → IfSome (task_refusal at.client) (λ x. (answer ≡ Err x) × (at'.own ≡ at.own) × (at'.window ≡ at.window)) → OnErr answer (at'.client ≡ at.client)
     → IfOk answer (Tasked line function task at.client at'.client (client_ports at) (client_ports at'))
     → (task_refusal at.client ≡ None → IfErr answer (WhyNotSent line at.client (task_unit function task at.client) (client_ports at) (client_ports at')))
-    → IfOk result (StepsOn granted (verbs.Task function task) p now (length at.client.rows) (owes at []) at')
-task_on granted line function task p now at at' answer result talks come stays sends wrote says reason memory refused same tasked why_not =
-    asks_on granted (verbs.Task function task) p now sent at at' why answer result
+    → IfOk result (StepsOn granted (verbs.Task function task) p now (length at.client.rows) (owes at []) before after at')
+task_on granted line function task p now at at' before after answer result noted talks come stays sends wrote says reason memory refused same tasked why_not =
+    asks_on granted (verbs.Task function task) p now sent at at' before after why answer result noted
     (subst (λ (o : Option Outcome). SendsUnless granted pages (verbs.Task function task) now o sent)
     (sym (task_as granted pages now at.client.granted at.client.outgoing known)) (sends_unless granted pages (verbs.Task function task) now refl)) talks come stays wrote.place
     (record {
@@ -341,15 +342,15 @@ none_asked [] [] are none = refl
 none_asked [] (asked ∷ outstanding) are none = absurd are
 none_asked (o ∷ outgoing) outstanding are none = absurd (cc (none))
 
-pub logout_on : (granted line : ℕ) (p : Progress) (now : Replay) (at at' : Between) (answer : Result ℕ Refused) (result : Result Step NoMemory) → TalksPlainly granted at []
+pub logout_on : (granted line : ℕ) (p : Progress) (now : Replay) (at at' : Between) (before after : List AnswerRow) (answer : Result ℕ Refused) (result : Result Step NoMemory) → after ≡ before → TalksPlainly granted at []
     → HasCome granted verbs.Logout p now at → ServerStays at at' → OnlySends false at.own at'.own → OnlyWrites at.window at'.window
     → SaysSent answer result → IfErr answer (λ x. SaysWhy x result) → IfErr answer (λ x. x ≡ whys.NoMemory → IsErr result)
     → IfSome (logout_why at.client) (λ x. (answer ≡ Err x) × (at'.own ≡ at.own) × (at'.window ≡ at.window)) → OnErr answer (at'.client ≡ at.client)
     → IfOk answer (LoggedOut line at.client at'.client (client_ports at) (client_ports at'))
     → (logout_why at.client ≡ None → IfErr answer (WhyNotSent line at.client (logout_unit at.client) (client_ports at) (client_ports at')))
-    → IfOk result (StepsOn granted verbs.Logout p now (length at.client.rows) (owes at []) at')
-logout_on granted line p now at at' answer result talks come stays sends wrote says reason memory refused same logged why_not =
-    asks_on granted verbs.Logout p now (logged_out now) at at' why answer result
+    → IfOk result (StepsOn granted verbs.Logout p now (length at.client.rows) (owes at []) before after at')
+logout_on granted line p now at at' before after answer result noted talks come stays sends wrote says reason memory refused same logged why_not =
+    asks_on granted verbs.Logout p now (logged_out now) at at' before after why answer result noted
     (subst (λ (o : Option Outcome). SendsUnless granted at.window.place.size verbs.Logout now o (logged_out now))
     (sym (logout_as granted now at.client.granted at.client.outgoing (knows granted now at talks come)))
     (record { come = λ p between come. come; ends = refl; after = refl })) talks come stays wrote.place

@@ -1,5 +1,5 @@
 -- A command or a task that a plain client sent is asked of its server unit.
-use Rattle.std.proofs.Common.{◌≡◌, ◌≢◌, ◌∙◌, ◌⊎◌, inl, inr, ℕ, ◌+◌, ◌<◌, ◌≤◌, ◌++◌, ◌||◌, nat_le, Bool, true, false, true≢false, cond, find, All, List, [], ◌∷◌, Option, Some, None, length, length-append, refl, sym, ap, subst, arith}
+use Rattle.std.proofs.Common.{◌≡◌, ◌≢◌, ◌∙◌, inl, inr, ℕ, ◌+◌, ◌<◌, ◌++◌, ◌||◌, nat_le, Bool, true, false, true≢false, cond, find, All, List, [], ◌∷◌, Option, Some, None, length, length-append, refl, ap, arith}
 use Rattle.std.proofs.lemmas.List.Elements.{All-cons, All-nil}
 use Rattle.std.specs.Option.{option_map}
 use Rattle.std.proofs.lemmas.Bool.Decides.{nat_tests}
@@ -19,7 +19,7 @@ use Rattle.vscsi_client.specs.declared.row.Row.{Row}
 use Rattle.vscsi_client.specs.declared.row.Row.TheVariants as rows
 use Rattle.vscsi_client.specs.declared.stage.Stage.TheVariants.{Idle}
 use Rattle.vcpu_run.proofs.PlainData.{meets_none, no_data}
-use Rattle.vcpu_run.specs.PlainTalk.{Ask, Between, DataLies, KeepsTables, KeepsSlots}
+use Rattle.vcpu_run.specs.PlainTalk.{Between, DataLies, KeepsTables, KeepsSlots}
 use Rattle.vcpu_run.proofs.PlainAsks.{Sends, SendsOut}
 use Rattle.vcpu_run.proofs.PlainStarts.{push_places, starts_command, starts_none}
 
@@ -123,8 +123,8 @@ command_sends line op at at' old new tag sub idle stays has = record {
   next = refl;
   rows = rows_more at.client.rows _ at'.client.rows (ap (λ (s : ClientState). s.rows) sub.client);
   places = push_places at.client.rows at'.client.rows (rows.Command op.dir op.at op.len None) (ap (λ (s : ClientState). s.rows) sub.client);
-  starts = starts_command at.client.rows at'.client.rows op
-      (record { tag = next_tag at.client; slot = sub.slot; iu = units.Cmd sub.command; bytes = sub.put.0; pages = data_span op; table = table_span op; start = op.at }) (ap (λ (s : ClientState). s.rows) sub.client) refl refl;
+  starts = starts_command at.client.rows at'.client.rows op sub.command (next_tag at.client)
+      (record { tag = next_tag at.client; slot = sub.slot; iu = units.Cmd sub.command; bytes = sub.put.0; pages = data_span op; table = table_span op; start = op.at }) (ap (λ (s : ClientState). s.rows) sub.client) refl refl refl sub.is_command;
   outgoing = ap (λ (s : ClientState). s.outgoing) sub.client;
   handshake = ap (λ (s : ClientState). s.handshake) sub.client;
   due = ap (λ (s : ClientState). s.due) sub.client;

@@ -15,7 +15,7 @@ use Rattle.srp_iu.specs.declared.unit.Iu.{Iu}
 use Rattle.srp_iu.specs.declared.unit.Iu.TheVariants as units
 use Rattle.tce_window.specs.PortState.{PortState}
 use Rattle.block_server.specs.Ends.{IsGrantable}
-use Rattle.block_server.specs.Talk.{AcceptsRequest, AnswersRequest, CountsAnswer, HearsAll, LogsOut, MayAsk, PutsReplies, Replies, ServesFirst, ServesNext, ServesNone, SettlesLogins, Suits, Talk, Word, order_asked, outstanding_behind, replies, session_rows, takes_behind, talk_of, to_come}
+use Rattle.block_server.specs.Talk.{AnswersRequest, CountsAnswer, HearsAll, LogsOut, MayAsk, PutsReplies, ServesNext, ServesNone, SettlesLogins, Suits, Talk, Word, order_asked, replies, session_rows, talk_of, to_come}
 use Rattle.block_server.specs.declared.request.Request.{Request}
 use Rattle.block_server.specs.declared.logins.Logins.{Logins}
 use Rattle.block_server.specs.declared.service.Outcome.{Outcome}
@@ -23,13 +23,12 @@ use Rattle.block_server.specs.declared.service.Outcome.TheVariants as outcomes
 use Rattle.block_server.specs.declared.unit.Unit.{Unit}
 use Rattle.vscsi_client.specs.Spans.{meets}
 use Rattle.vscsi_client.specs.State.{ClientState}
-use Rattle.vscsi_client.specs.Units.{slot_address}
-use Rattle.vscsi_client.specs.declared.TheConstants.{SLOTS}
 use Rattle.vscsi_client.specs.declared.stage.Stage.TheVariants.{Idle}
-use Rattle.vcpu_run.specs.PlainTalk.{AgreeOnLogin, AnswerStands, AreApart, CountsAsked, AreInOrder, ArePending, AreSpared, Ask, AskedParts, Between, ClientStays, HasAnswer, DataLies, HaveAnswers, InPhase, IsAsk, IsCalm, IsFair, IsPendingAs, IsTalking, KeepsTables, KeepsSlots, SaysOfLogin, TagsRise, TalksPlainly, all_asked, awaited, counted, grants_one, has_login, has_logout, is_counted, is_grant, is_granted, is_login, is_logout, is_sent, names_of, on_behind, word_of, StartsAt}
+use Rattle.vcpu_run.specs.PlainTalk.{AnswerStands, AreApart, CountsAsked, AreInOrder, ArePending, AreSpared, Ask, AskedParts, Between, ClientStays, DataLies, HaveAnswers, IsAsk, IsCalm, IsFair, IsPendingAs, IsTalking, KeepsTables, KeepsSlots, IsAnswerBy, TagsRise, all_asked, awaited, grants_one, has_login, has_logout, is_counted, is_grant, is_granted, is_login, is_logout, is_sent, names_of, on_behind, word_of, StartsAt}
 use Rattle.vcpu_run.proofs.PlainLists.{all_without, answers_plain, answers_push, apart_front, apart_without, counted_behind, counted_no_login, counted_push, first_logout, granted_push, last_login, login_counted, login_no_logout, login_push, login_without, logout_behind, logout_no_login, logout_not_counted, logout_push, names_without, no_login, on_counted, on_login, on_out, order_logout, order_tail, outstanding_by, pending_push, rise_without, takes_by}
 use Rattle.vcpu_run.proofs.PlainReady.{all_front, all_rest}
-use Rattle.vcpu_run.proofs.PlainTurns.{Turns, away_behind, begun_behind, calm_behind, come_more, gets_all, hears_granted, puts_no, sent_same}
+use Rattle.vcpu_run.proofs.PlainTurns.{Turns, come_more, gets_all, hears_granted, puts_no, sent_same}
+use Rattle.vcpu_run.proofs.PlainRejected.{says_move}
 
 -- ---- what was to come is pending
 
@@ -66,7 +65,7 @@ heard_one unit middle n pending ask is_ask are counts (between, one, same) = rec
   pending_are = subst (λ (requests : List Request). ArePending requests (pending ++ ask ∷ []))
       (sym (ap (λ (t : Talk). t.pending) same ∙ one.pending))
       (pending_push unit.pending.items pending one.request ask are
-      (record { address = one.is.address_is; tag = one.is.tag_is ∙ is_ask.tag_is; order = one.is.order_is }));
+      (record { address = one.is.address_is; tag = one.is.tag_is ∙ is_ask.tag_is; order = one.is.order_is; bytes = one.is.bytes_are }));
   counts = record {
     taking = ap (λ (t : Talk). t.taking) same ∙ one.taking ∙ takes_by unit.logins.taking ask.iu
         ∙ ap (λ b. cond (is_logout ask.iu) false b) counts.taking
@@ -112,7 +111,7 @@ answers_move old new spared keeps (entry ∷ entries) (ask ∷ asked) (answer �
     few = have.0.few;
     entry_is = have.0.entry_is;
     bytes = have.0.bytes;
-    stand = keeps ask.slot have.0.bytes (All-head IsAsk ask asked each).slot_is (All-head (λ (ask : Ask). spared ask.slot) ask asked apart) have.0.whole have.0.stand;
+    stand = keeps.slots ask.slot have.0.bytes (All-head IsAsk ask asked each).slot_is (All-head (λ (ask : Ask). spared ask.slot) ask asked apart) have.0.whole have.0.stand;
     whole = have.0.whole;
     spelled = have.0.spelled;
     suits = have.0.suits;
@@ -164,7 +163,7 @@ record Left (granted : ℕ) (at at' : Between) (whole answered rest : List Ask) 
   starts : All (StartsAt at.client.rows) rest
   spared : AreSpared rest
   logs : Logs at.client.granted at'.unit.logins.current answered rest answers
-  grant : All (SaysOfLogin granted) answers
+  grant : All (IsAnswerBy granted at'.unit.id at'.window) answers
 
 talk_so : (granted : ℕ) (at at' : Between) (words : List Word) (asked : AskedParts) (answers : List Iu) (whole answered rest : List Ask) (answers' : List Iu)
     → IsTalking granted at words asked answers → ClientStays at at' → Left granted at at' whole answered rest answers'
@@ -222,7 +221,7 @@ LeavesSlots old new unit unit' queue queue' lines lines' (inl none) = KeepsSlots
 LeavesSlots old new unit unit' queue queue' lines lines' (inr (request, rest, pending, inl out)) =
     (ask : Ask) → IsPendingAs request ask → IsAsk ask → DataLies old ask → LeavesElse ask old new
 LeavesSlots old new unit unit' queue queue' lines lines' (inr (request, rest, pending, inr is)) =
-    (ask : Ask) → IsPendingAs request ask → IsAsk ask → DataLies old ask → LeavesElse ask old new × ((answer : Iu) × AnswerStands unit.logins.granted new ask is.long is.outcome answer)
+    (ask : Ask) → IsPendingAs request ask → IsAsk ask → DataLies old ask → LeavesElse ask old new × ((answer : Iu) × AnswerStands unit.logins.granted unit'.id new ask is.long is.outcome answer)
 
 -- what is to come to the client behind the turn
 come_behind : (granted : ℕ) (at at' : Between) (words : List Word) (asked : AskedParts) (answers : List Iu) (between : EndState) (entries : List Entry) → IsCalm granted at words
@@ -246,11 +245,11 @@ puts_nothing old new same =
     ∙ sym (ap (λ (rows : List PipeRow). old.sent ++ rows) (puts_no old.place.partner_registered old.counts.partner_session) ∙ append-nil old.sent)
 
 served_none : (granted : ℕ) (at at' : Between) (lines lines' : List Grant) (words : List Word) (asked : AskedParts) (answers : List Iu) → IsCalm granted at words
-    → IsTalking granted at words asked answers → (turn : Turns at at' lines lines' words) → ClientStays at at'
+    → IsTalking granted at words asked answers → (turn : Turns at at' lines lines' words) → ClientStays at at' → at'.unit.id ≡ at.unit.id
     → IsHeard at.unit turn.middle (asked.pending ++ asked.coming) → ServesNone turn.middle at'.unit turn.between.queue at'.server turn.added lines'
     → KeepsSlots (λ slot. ⊤) at.window at'.window → KeepsTables (λ ask. ⊤) at.window at'.window
     → Left granted at at' (all_asked asked) asked.answered (asked.pending ++ asked.coming) answers
-served_none granted at at' lines lines' words asked answers calm talk turn stays heard none keeps stay = record {
+served_none granted at at' lines lines' words asked answers calm talk turn stays id heard none keeps stay = record {
   is = refl;
   each = talk.each;
   slots = talk.slots;
@@ -275,7 +274,7 @@ served_none granted at at' lines lines' words asked answers calm talk turn stays
     on = λ some. subst (λ c. 1 ≤ c) (sym current) (talk.login.on some);
     answer = talk.login.answer;
   };
-  grant = talk.login.grant;
+  grant = says_move granted at.unit.id at'.unit.id at.window at'.window id keeps.unit keeps.strokes answers talk.login.grant;
 }
   where
     pending : List Ask
@@ -297,12 +296,12 @@ not_both : (b : Bool) → b ≡ true → b ≡ false → ⊥
 not_both b is isnt = cc
 
 served_out : (granted : ℕ) (at at' : Between) (lines lines' : List Grant) (words : List Word) (asked : AskedParts) (answers : List Iu) → IsCalm granted at words
-    → IsTalking granted at words asked answers → (turn : Turns at at' lines lines' words) → ClientStays at at'
+    → IsTalking granted at words asked answers → (turn : Turns at at' lines lines' words) → ClientStays at at' → at'.unit.id ≡ at.unit.id
     → IsHeard at.unit turn.middle (asked.pending ++ asked.coming) → (request : Request) (rest : List Request) → turn.middle.pending.items ≡ request ∷ rest
     → (ask : Ask) (more : List Ask) → asked.pending ++ asked.coming ≡ ask ∷ more → ArePending rest more → is_logout ask.iu ≡ true
     → LogsOut turn.middle at'.unit turn.between.queue at'.server turn.added lines'
     → LeavesElse ask at.window at'.window → Left granted at at' (asked.answered ++ more) asked.answered more answers
-served_out granted at at' lines lines' words asked answers calm talk turn stays heard request rest items ask more is are logout out leaves = record {
+served_out granted at at' lines lines' words asked answers calm talk turn stays id heard request rest items ask more is are logout out leaves = record {
   is = refl;
   each = all_without IsAsk asked.answered ask more (subst (λ (list : List Ask). All IsAsk (asked.answered ++ list)) is talk.each);
   slots = apart_without asked.answered ask more (subst (λ (list : List Ask). AreApart (asked.answered ++ list)) is talk.slots);
@@ -335,7 +334,7 @@ served_out granted at at' lines lines' words asked answers calm talk turn stays 
     on = λ some. absurd (not_both (has_login asked.answered) some none);
     answer = λ some. absurd (not_both (has_login asked.answered) some none);
   };
-  grant = talk.login.grant;
+  grant = says_move granted at.unit.id at'.unit.id at.window at'.window id leaves.slots.unit leaves.slots.strokes answers talk.login.grant;
 }
   where
     order : AreInOrder (asked.answered ++ ask ∷ more)
@@ -463,13 +462,13 @@ login_logs known outcome old new answered ask answers answer is none no_grant sa
     twice false = refl
 
 served_one : (granted : ℕ) (at at' : Between) (lines lines' : List Grant) (words : List Word) (asked : AskedParts) (answers : List Iu) → IsCalm granted at words
-    → IsTalking granted at words asked answers → (turn : Turns at at' lines lines' words) → ClientStays at at'
+    → IsTalking granted at words asked answers → (turn : Turns at at' lines lines' words) → ClientStays at at' → at'.unit.id ≡ at.unit.id
     → IsHeard at.unit turn.middle (asked.pending ++ asked.coming) → (request : Request) (rest : List Request) → turn.middle.pending.items ≡ request ∷ rest
     → (ask : Ask) (more : List Ask) → asked.pending ++ asked.coming ≡ ask ∷ more → IsPendingAs request ask → ArePending rest more → IsAsk ask
     → (one : AnswersRequest turn.middle at'.unit turn.between.queue at'.server turn.added lines' request)
-    → LeavesElse ask at.window at'.window → (answer : Iu) → AnswerStands turn.middle.logins.granted at'.window ask one.long one.outcome answer
+    → LeavesElse ask at.window at'.window → (answer : Iu) → AnswerStands turn.middle.logins.granted at'.unit.id at'.window ask one.long one.outcome answer
     → Left granted at at' (all_asked asked) (asked.answered ++ ask ∷ []) more (answers ++ answer ∷ [])
-served_one granted at at' lines lines' words asked answers calm talk turn stays heard request rest items ask more is pending are is_ask one leaves answer stands = record {
+served_one granted at at' lines lines' words asked answers calm talk turn stays id heard request rest items ask more is pending are is_ask one leaves answer stands = record {
   is = append_assoc asked.answered (ask ∷ []) more ∙ ap (λ (list : List Ask). asked.answered ++ list) (sym is);
   each = talk.each;
   slots = talk.slots;
@@ -502,7 +501,8 @@ served_one granted at at' lines lines' words asked answers calm talk turn stays 
   starts = All-tail (StartsAt at.client.rows) ask more (subst (All (StartsAt at.client.rows)) is talk.starts);
   spared = (subst AreSpared is talk.spared).1;
   logs = logs_by is_ask.kind;
-  grant = All-push (SaysOfLogin granted) answers answer talk.login.grant (subst (λ n. SaysOfLogin n answer) grants_is stands.credits);
+  grant = All-push (IsAnswerBy granted at'.unit.id at'.window) answers answer (says_move granted at.unit.id at'.unit.id at.window at'.window id leaves.slots.unit leaves.slots.strokes answers talk.login.grant)
+      (subst (λ n. IsAnswerBy n at'.unit.id at'.window answer) grants_is stands.credits);
 }
   where
     entry : Entry
@@ -571,9 +571,9 @@ abbrev TalksSomehow : (granted : ℕ) → Between → Type 0
 TalksSomehow granted at = (asked : AskedParts) × (answers : List Iu) × IsTalking granted at [] asked answers
 
 pub talk_behind : (granted : ℕ) (at at' : Between) (lines lines' : List Grant) (words : List Word) (asked : AskedParts) (answers : List Iu) → IsCalm granted at words
-    → IsTalking granted at words asked answers → (turn : Turns at at' lines lines' words) → ClientStays at at'
+    → IsTalking granted at words asked answers → (turn : Turns at at' lines lines' words) → ClientStays at at' → at'.unit.id ≡ at.unit.id
     → LeavesSlots at.window at'.window turn.middle at'.unit turn.between.queue at'.server turn.added lines' turn.serves → TalksSomehow granted at'
-talk_behind granted at at' lines lines' words asked answers calm talk turn stays leaves = by turn.serves leaves
+talk_behind granted at at' lines lines' words asked answers calm talk turn stays id leaves = by turn.serves leaves
   where
     pending : List Ask
     pending = asked.pending ++ asked.coming
@@ -593,17 +593,17 @@ talk_behind granted at at' lines lines' words asked answers calm talk turn stays
     by : (serves : ServesNext turn.middle at'.unit turn.between.queue at'.server turn.added lines')
         → LeavesSlots at.window at'.window turn.middle at'.unit turn.between.queue at'.server turn.added lines' serves → TalksSomehow granted at'
     by (inl none) keeps =
-        goes asked.answered pending (all_asked asked) answers (served_none granted at at' lines lines' words asked answers calm talk turn stays heard none keeps.0 keeps.1)
+        goes asked.answered pending (all_asked asked) answers (served_none granted at at' lines lines' words asked answers calm talk turn stays id heard none keeps.0 keeps.1)
     by (inr (request, rest, items, inl out)) leaves =
         let first = pending_first request rest pending (subst (λ (requests : List Request). ArePending requests pending) items heard.pending_are) in
         let is_ask : IsAsk first.0 = All-head IsAsk first.0 first.1 (subst (All IsAsk) first.2 (all_rest IsAsk asked.answered pending talk.each)) in
         goes asked.answered first.1 (asked.answered ++ first.1) answers
-        (served_out granted at at' lines lines' words asked answers calm talk turn stays heard request rest items first.0 first.1 first.2 first.4
+        (served_out granted at at' lines lines' words asked answers calm talk turn stays id heard request rest items first.0 first.1 first.2 first.4
         (order_logout first.0.iu (sym first.3.order ∙ out.0)) out.1 (leaves first.0 first.3 is_ask (data_first first.0 first.1 first.2)))
     by (inr (request, rest, items, inr one)) leaves =
         let first = pending_first request rest pending (subst (λ (requests : List Request). ArePending requests pending) items heard.pending_are) in
         let is_ask : IsAsk first.0 = All-head IsAsk first.0 first.1 (subst (All IsAsk) first.2 (all_rest IsAsk asked.answered pending talk.each)) in
         let window = leaves first.0 first.3 is_ask (data_first first.0 first.1 first.2) in
         goes (asked.answered ++ first.0 ∷ []) first.1 (all_asked asked) (answers ++ window.1.0 ∷ [])
-        (served_one granted at at' lines lines' words asked answers calm talk turn stays heard request rest items first.0 first.1 first.2 first.3 first.4 is_ask one
+        (served_one granted at at' lines lines' words asked answers calm talk turn stays id heard request rest items first.0 first.1 first.2 first.3 first.4 is_ask one
         window.0 window.1.0 window.1.1)

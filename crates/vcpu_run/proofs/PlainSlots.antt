@@ -1,24 +1,22 @@
 -- The slots of a plain client's window: which ranges they are, what stands in them behind a write elsewhere, and what an entry of a unit says.
-use Rattle.std.proofs.Common.{◌≡◌, ◌≢◌, ◌∙◌, ◌⊎◌, inl, inr, ℕ, zero, suc, ◌+◌, ◌-◌, ◌*◌, ◌/◌, ◌%◌, ◌^◌, ◌<◌, ◌≤◌, ◌==◌, ◌++◌, ◌&&◌, Bool, true, false, List, [], ◌∷◌, length, refl, sym, ap, ap₂, subst, arith}
+use Rattle.std.proofs.Common.{◌≡◌, ◌≢◌, ◌∙◌, ◌⊎◌, inl, inr, ℕ, ◌-◌, ◌^◌, ◌<◌, ◌≤◌, ◌==◌, ◌&&◌, true, false, List, [], length, sym, ap, ap₂, subst, arith}
 use Rattle.std.specs.Prelude.{⊤}
 use Rattle.std.proofs.lemmas.Bool.{cases_lt}
 use Rattle.byteorder.specs.Numbers.{big_number-reads_back}
 use Rattle.vio_num.specs.Entry.{entry_format, first_byte, is_srp_entry, iu_address, iu_length, srp_entry}
-use Rattle.srp_iu.specs.Grammar.{Canon}
-use Rattle.srp_iu.specs.declared.unit.Iu.{Iu}
 use Rattle.tce_window.specs.Pieces.{IsUsable}
 use Rattle.tce_window.specs.PortState.{OnlyWrites, PortState, Writes}
 use Rattle.tce_window.specs.declared.answers.Right.TheVariants.{Read}
-use Rattle.block_server.specs.Talk.{SaysRequest, SaysWord, StandAt}
-use Rattle.block_server.specs.Talk.Word.{asks}
-use Rattle.vscsi_client.specs.Ports.{Lays, LaysAll, Write, unit_write}
+use Rattle.block_server.specs.Talk.{SaysWord, StandAt}
 use Rattle.vscsi_client.specs.Units.{slot_address}
 use Rattle.vscsi_client.specs.declared.TheConstants.{DATA_START, SLOTS}
 use Rattle.vcpu_run.specs.PlainTalk.{Ask, IsAsk, IsOwnWindow, KeepsSlots, word_of}
 use Rattle.vcpu_run.proofs.PlainPages.{shown}
 use Rattle.vcpu_run.proofs.PlainStands.{IsOnPage, shown_stand, slot_usable, stand_shown}
-use Rattle.vcpu_run.proofs.PlainStays.{Apart, laid_apart, laid_own, laid_shown}
+use Rattle.vcpu_run.proofs.PlainStays.{Apart, laid_apart, laid_own}
 use Rattle.vcpu_run.proofs.PlainUnits.{canon_some, canon_spells}
+use Rattle.vcpu_run.proofs.PlainRejected.{laid_stay}
+use Rattle.unit_region.specs.RegionLines.{IsOn}
 
 -- ---- ranges
 
@@ -48,19 +46,30 @@ behind_apart at n slot within behind = inr (omega (arith, within, behind))
 -- the slots stay that are apart from a write
 pub write_keeps : (spared : ℕ → Type 0) (old new : PortState) (at mark : ℕ) (bytes : List ℕ) → IsOwnWindow old → Writes false old at bytes mark new → OnlyWrites old new
     → ((slot : ℕ) → slot ≤ SLOTS → spared slot → Apart at (length bytes) (slot_address slot) 256) → KeepsSlots spared old new
-write_keeps spared old new at mark bytes own wrote only apart slot list within spares whole stand =
-    let on : IsOnPage old (slot_address slot) (length list) = slot_on old own slot (length list) within (omega (arith, whole)) (omega (arith, whole)) in
-    let own' : IsOwnWindow new = laid_own old new at mark bytes own wrote only in
-    shown_stand new own' (slot_address slot) list (slot_on new own' slot (length list) within (omega (arith, whole)) (omega (arith, whole)))
-    (laid_apart old new at mark bytes (slot_address slot) (length list) wrote on.some on.fits
-    (subst (λ n. Apart at (length bytes) (slot_address slot) n) (sym whole) (apart slot within spares))
-    ∙ stand_shown old own (slot_address slot) list on stand)
+write_keeps spared old new at mark bytes own wrote only apart = record { strokes = laid_stay old new at mark bytes wrote; slots = stood; unit = ap (λ place. place.unit) only.place }
+  where
+    stood : (slot : ℕ) (list : List ℕ) → slot ≤ SLOTS → spared slot → length list ≡ 256 → StandAt old (slot_address slot) list → StandAt new (slot_address slot) list
+    stood slot list within spares whole stand =
+        let on : IsOnPage old (slot_address slot) (length list) = slot_on old own slot (length list) within (omega (arith, whole)) (omega (arith, whole)) in
+        let own' : IsOwnWindow new = laid_own old new at mark bytes own wrote only in
+        shown_stand new own' (slot_address slot) list (slot_on new own' slot (length list) within (omega (arith, whole)) (omega (arith, whole)))
+        (laid_apart old new at mark bytes (slot_address slot) (length list) wrote on.some on.fits
+        (subst (λ n. Apart at (length bytes) (slot_address slot) n) (sym whole) (apart slot within spares))
+        ∙ stand_shown old own (slot_address slot) list on stand)
 
 pub keeps_on : (spared : ℕ → Type 0) (a b c : PortState) → KeepsSlots (λ slot. ⊤) a b → KeepsSlots spared b c → KeepsSlots spared a c
-keeps_on spared a b c first next slot bytes within spares whole stand = next slot bytes within spares whole (first slot bytes within tt whole stand)
+keeps_on spared a b c first next = record {
+  slots = λ slot bytes within spares whole stand. next.slots slot bytes within spares whole (first.slots slot bytes within tt whole stand);
+  strokes = λ page stroke is. next.strokes page stroke (first.strokes page stroke is);
+  unit = next.unit ∙ first.unit;
+}
 
 pub keeps_same : (old new : PortState) → new ≡ old → KeepsSlots (λ slot. ⊤) old new
-keeps_same old new same slot bytes within spares whole stand = subst (λ (w : PortState). StandAt w (slot_address slot) bytes) (sym same) stand
+keeps_same old new same = record {
+  slots = λ slot bytes within spares whole stand. subst (λ (w : PortState). StandAt w (slot_address slot) bytes) (sym same) stand;
+  strokes = λ page stroke is. subst (λ (w : PortState). IsOn stroke (w.strokes page)) (sym same) is;
+  unit = ap (λ (w : PortState). w.place.unit) same;
+}
 
 -- ---- what the entry of a unit says
 

@@ -1,8 +1,16 @@
--- In a client's rows the data of what it asked lie where they lay, whatever it sends or takes.
-use Rattle.std.proofs.Common.{◌≡◌, ◌∙◌, ◌⊎◌, inl, inr, ℕ, zero, suc, ◌+◌, ◌≤◌, ◌==◌, ◌++◌, All, true, false, List, [], ◌∷◌, Option, None, length, sym, ap, ap₂, subst, arith, eq-eqb, eqb-true}
+-- In a client's rows the data of what it asked lie where they lay, and are as many, whatever it sends or takes.
+use Rattle.std.proofs.Common.{◌≡◌, ◌∙◌, ◌⊎◌, inl, inr, ℕ, zero, suc, ◌+◌, ◌-◌, ◌*◌, ◌/◌, ◌≤◌, ◌==◌, ◌++◌, All, Bool, true, false, cond, List, [], ◌∷◌, Option, Some, None, length, refl, sym, ap, ap₂, subst, arith, eq-eqb, eqb-true}
+use Rattle.std.specs.Prelude.{MatchBool, MatchOption}
 use Rattle.std.proofs.lemmas.List.Elements.{All-cons, All-head, All-nil, All-tail}
+use Rattle.srp_desc.specs.Pieces.{total_of}
+use Rattle.srp_iu.specs.declared.buffer.Buffer.{Buffer}
+use Rattle.srp_iu.specs.declared.buffer.Buffer.TheVariants.{Absent, Direct}
+use Rattle.srp_iu.specs.declared.command.Cmd.{Cmd as Command}
 use Rattle.srp_iu.specs.declared.response.Rsp.{Rsp as Response}
+use Rattle.srp_iu.specs.declared.unit.Iu.TheVariants as units
 use Rattle.vscsi_client.specs.Taking.{answered, row_answered}
+use Rattle.vscsi_client.specs.Units.{InDir, IsBuffer, IsCommand, IsIndirect, piece_of, pieces}
+use Rattle.vscsi_client.specs.declared.op.Dir.{Dir}
 use Rattle.vscsi_client.specs.declared.op.Dir.TheVariants as dirs
 use Rattle.vscsi_client.specs.declared.op.Op.{Op}
 use Rattle.vscsi_client.specs.declared.row.DataIn.{DataIn}
@@ -83,9 +91,37 @@ pub starts_none : (old new : List Row) (row : Row) (ask : Ask) → new ≡ old +
 starts_none old new row ask is next none at len inward =
     absurd (both_bools (is_inward row) (ap is_inward (sym (row_new old new row ask.tag is next) ∙ inward.1)) none)
 
-command_at : (op : Op) (at len : ℕ) (said : Option DataIn) → rows.Command op.dir op.at op.len None ≡ rows.Command dirs.In at len said → op.at ≡ at
-command_at op at len said is = cc (is)
+-- the buffer of a command's data takes as many bytes as these are
+piece_all : (op : Op) → (op.pieces == 1) ≡ true → (piece_of op 0).len ≡ op.len
+piece_all op one =
+    ap (λ (b : Bool). cond b (op.len - op.len / op.pieces * 0) (op.len / op.pieces)) (ap (λ n. 1 == n) (eqb-true op.pieces 1 one)) ∙ omega arith
 
-pub starts_command : (old new : List Row) (op : Op) (ask : Ask) → new ≡ old ++ rows.Command op.dir op.at op.len None ∷ [] → ask.tag ≡ length old + 1 → ask.start ≡ op.at → StartsAt new ask
-starts_command old new op ask is next start at len inward =
-    sym (command_at op at len inward.0 (sym (row_new old new (rows.Command op.dir op.at op.len None) ask.tag is next) ∙ inward.1)) ∙ sym start
+buffer_total : (op : Op) (buffer : Buffer) → IsBuffer op buffer → total_of buffer ≡ op.len
+buffer_total op buffer = by op.table
+  where
+    direct : (b : Bool) → (op.pieces == 1) ≡ b → MatchBool b (buffer ≡ Direct (piece_of op 0)) (IsIndirect op 0 (pieces op op.pieces) buffer) → total_of buffer ≡ op.len
+    direct true e is = ap total_of is ∙ piece_all op e
+    direct false e is = ap total_of is.buffer_is
+
+    by : (table : Option ℕ) → MatchOption table (MatchBool (op.pieces == 1) (buffer ≡ Direct (piece_of op 0)) (IsIndirect op 0 (pieces op op.pieces) buffer)) (λ at. IsIndirect op at [] buffer)
+        → total_of buffer ≡ op.len
+    by None is = direct (op.pieces == 1) refl is
+    by (Some at) is = ap total_of is.buffer_is
+
+inn_total : (tag : ℕ) (op : Op) (command : Command) → IsCommand tag op command → op.dir ≡ dirs.In → total_of command.inn ≡ op.len
+inn_total tag op command is inward =
+    buffer_total op command.inn (subst (λ (d : Dir). InDir d (command.inn ≡ Absent) (command.inn ≡ Absent) (IsBuffer op command.inn)) inward is.inn)
+
+record IsInwardOp (op : Op) (at len : ℕ) : Type 0 where
+  dir_is : op.dir ≡ dirs.In
+  at_is : op.at ≡ at
+  len_is : op.len ≡ len
+
+command_at : (op : Op) (at len : ℕ) (said : Option DataIn) → rows.Command op.dir op.at op.len None ≡ rows.Command dirs.In at len said → IsInwardOp op at len
+command_at op at len said is = record { dir_is = cc (is); at_is = cc (is); len_is = cc (is) }
+
+pub starts_command : (old new : List Row) (op : Op) (command : Command) (tag : ℕ) (ask : Ask) → new ≡ old ++ rows.Command op.dir op.at op.len None ∷ [] → ask.tag ≡ length old + 1
+    → ask.start ≡ op.at → ask.iu ≡ units.Cmd command → IsCommand tag op command → StartsAt new ask
+starts_command old new op command tag ask is next start iu asks' at len inward =
+    let its = command_at op at len inward.0 (sym (row_new old new (rows.Command op.dir op.at op.len None) ask.tag is next) ∙ inward.1) in
+    (sym its.at_is ∙ sym start, (command, iu, inn_total tag op command asks' its.dir_is ∙ its.len_is))

@@ -1,37 +1,35 @@
 -- What is so between a plain client and its server unit stays so where nothing is put, taken or answered, and the slots stay.
-use Rattle.std.proofs.Common.{◌≡◌, ◌≢◌, ◌∙◌, ◌⊎◌, inl, inr, ℕ, ◌*◌, ◌/◌, ◌%◌, ◌<◌, ◌≤◌, ◌++◌, All, Bool, true, false, List, [], ◌∷◌, Option, Some, None, IsSome, drop, is_some, length, map, min, not, nat_le, refl, sym, ap, ap₂, subst, arith}
+use Rattle.std.proofs.Common.{◌≡◌, ◌∙◌, ◌⊎◌, inl, inr, ℕ, ◌*◌, ◌/◌, ◌%◌, ◌<◌, ◌≤◌, ◌++◌, All, true, false, List, [], ◌∷◌, Option, Some, None, IsSome, is_some, length, min, nat_le, refl, sym, ap, ap₂, subst, arith}
 use Rattle.std.proofs.lemmas.List.Elements.{All-append, All-cons, All-nil}
 use Rattle.std.specs.Prelude.{⊤}
-use Rattle.vio_num.specs.Entry.{initialization_complete}
 use Rattle.vio_num.specs.declared.entry.Entry.{Entry}
 use Rattle.page_slots.specs.Stroke.{StrokeValue}
-use Rattle.crq_session.specs.EndState.{EndPlace, EndState}
-use Rattle.crq_session.specs.declared.handshake.Handshake.TheVariants.{Up}
 use Rattle.srp_iu.specs.declared.unit.Iu.{Iu}
-use Rattle.tce_window.specs.Port.{Grows}
-use Rattle.tce_window.specs.PortState.{OnlyReads, OnlyWrites, PortState, Writes}
-use Rattle.block_server.specs.Talk.{MayAsk, SayWords, StandAt, Word, talk_of, to_come}
+use Rattle.tce_window.specs.PortState.{OnlyReads, PortState}
+use Rattle.block_server.specs.Talk.{MayAsk, SayWords, Word, talk_of, to_come}
 use Rattle.block_server.specs.declared.unit.Unit.{Unit}
 use Rattle.vscsi_client.specs.Sending.{task_of}
 use Rattle.vscsi_client.specs.Spans.{meets}
 use Rattle.vscsi_client.specs.State.{ClientState}
 use Rattle.vscsi_client.specs.Units.{slot_address}
-use Rattle.vscsi_client.specs.declared.TheConstants.{DATA_START, SLOTS}
+use Rattle.vscsi_client.specs.declared.TheConstants.{DATA_START}
 use Rattle.vscsi_client.specs.declared.outgoing.Outgoing.{Outgoing}
 use Rattle.vscsi_client.specs.declared.outgoing.Span.{Span}
 use Rattle.vscsi_client.specs.declared.stage.Stage.{Stage}
 use Rattle.vscsi_client.specs.declared.stage.Stage.TheVariants.{Idle, Sent, Written}
 use Rattle.vcpu_run.proofs.PlainData.{data_same, named_kept, names_rest, none_meets}
-use Rattle.vcpu_run.specs.PlainTalk.{AgreeOnLogin, CountsAsked, ArePending, AreStale, Ask, AskedParts, Between, DataLies, HaveAnswers, HearsOfClient, HearsOfGone, InPhase, IsAsk, IsAway, IsBeginning, IsCalm, IsOwnWindow, IsTalking, IsVacant, KeepsTables, KeepsSlots, ServerStays, TagsRise, TalksPlainly, all_asked, awaited, grants_one, has_login, is_logout, is_sent, login_name, name_of, names_of, on_behind, StartsAt, IsOwnEntry}
+use Rattle.vcpu_run.specs.PlainTalk.{CountsAsked, ArePending, AreStale, AskedParts, Between, HaveAnswers, HearsOfClient, HearsOfGone, InPhase, IsAsk, IsAway, IsBeginning, IsCalm, IsOwnWindow, IsTalking, IsVacant, KeepsTables, KeepsSlots, ServerStays, TagsRise, TalksPlainly, all_asked, awaited, is_logout, is_sent, login_name, name_of, on_behind, StartsAt, IsOwnEntry}
 use Rattle.vcpu_run.proofs.PlainPages.{shown_on}
 use Rattle.vcpu_run.proofs.PlainReady.{all_front}
 use Rattle.vcpu_run.proofs.PlainSays.{none_said}
 use Rattle.vcpu_run.proofs.PlainServed.{all_spared, answers_move}
-use Rattle.vcpu_run.proofs.PlainSlots.{behind_apart, slot_on, write_keeps}
+use Rattle.vcpu_run.proofs.PlainSlots.{slot_on}
 use Rattle.vcpu_run.proofs.PlainStands.{IsOnPage, shown_stand, stand_shown}
-use Rattle.vcpu_run.proofs.PlainStays.{grown_same, laid_own}
+use Rattle.vcpu_run.proofs.PlainStays.{grown_same}
 use Rattle.vcpu_run.proofs.PlainPuts.{LeavesWindow}
 use Rattle.vcpu_run.proofs.PlainTurns.{come_kept}
+use Rattle.unit_region.specs.RegionLines.{IsOn}
+use Rattle.vcpu_run.proofs.PlainRejected.{says_move}
 
 -- ---- the window
 
@@ -51,11 +49,15 @@ reads_leave old new own only = record { own = own'; keeps = keeps }
     }
 
     keeps : KeepsSlots (λ slot. ⊤) old new
-    keeps slot bytes within spares whole stand =
-        let on : IsOnPage old (slot_address slot) (length bytes) = slot_on old own slot (length bytes) within (omega (arith, whole)) (omega (arith, whole)) in
-        shown_stand new own' (slot_address slot) bytes (slot_on new own' slot (length bytes) within (omega (arith, whole)) (omega (arith, whole)))
-        (ap (λ (now : Option (List StrokeValue)). shown_on now (slot_address slot % 4096) (length bytes)) (same (slot_address slot / 4096))
-        ∙ stand_shown old own (slot_address slot) bytes on stand)
+    keeps = record {
+      strokes = λ page stroke is. subst (IsOn stroke) (sym (same page)) is;
+      unit = ap (λ place. place.unit) only.place;
+      slots = λ slot bytes within spares whole stand.
+          let on : IsOnPage old (slot_address slot) (length bytes) = slot_on old own slot (length bytes) within (omega (arith, whole)) (omega (arith, whole)) in
+          shown_stand new own' (slot_address slot) bytes (slot_on new own' slot (length bytes) within (omega (arith, whole)) (omega (arith, whole)))
+          (ap (λ (now : Option (List StrokeValue)). shown_on now (slot_address slot % 4096) (length bytes)) (same (slot_address slot / 4096))
+          ∙ stand_shown old own (slot_address slot) bytes on stand);
+    }
 
 -- what is awaited without a table is spared
 pub all_true : (outgoing : List Outgoing) → All (λ o. ⊤) outgoing
@@ -189,7 +191,7 @@ talk_still spared granted at at' words asked answers still talk = record {
         ∙ ap (λ (u : Unit). on_behind (nat_le 1 u.logins.current) (asked.pending ++ asked.coming)) (sym still.server.unit);
     on = λ some. subst (λ (u : Unit). 1 ≤ u.logins.current) (sym still.server.unit) (talk.login.on some);
     answer = λ some. ap (λ (s : ClientState). is_some s.granted) still.client ∙ talk.login.answer some;
-    grant = talk.login.grant;
+    grant = says_move granted at.unit.id at'.unit.id at.window at'.window (ap (λ (u : Unit). u.id) still.server.unit) still.window.keeps.unit still.window.keeps.strokes answers talk.login.grant;
   };
 }
 

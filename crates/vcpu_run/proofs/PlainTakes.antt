@@ -10,12 +10,13 @@ use Rattle.block_server.specs.declared.unit.Unit.{Unit}
 use Rattle.vscsi_client.specs.declared.outgoing.Outgoing.{Outgoing}
 use Rattle.vscsi_client.specs.declared.stage.Stage.{Stage}
 use Rattle.vscsi_client.specs.declared.stage.Stage.TheVariants.{Idle, Sent, Written}
-use Rattle.vcpu_run.specs.PlainTalk.{AreApart, CountsAsked, AreInOrder, ArePending, Ask, AskedParts, Between, HasAnswer, HaveAnswers, IsAsk, IsTalking, KeepsTables, KeepsSlots, SaysOfLogin, TagsRise, all_asked, grants_one, has_login, is_login, is_logout, is_sent, login_name, name_of, names_of, on_behind}
+use Rattle.vcpu_run.specs.PlainTalk.{AreApart, CountsAsked, AreInOrder, ArePending, Ask, AskedParts, Between, HasAnswer, HaveAnswers, IsAsk, IsTalking, KeepsTables, KeepsSlots, IsAnswerBy, TagsRise, all_asked, grants_one, has_login, is_login, is_logout, is_sent, login_name, name_of, names_of, on_behind}
 use Rattle.vcpu_run.proofs.PlainLists.{answer_plain, last_login, order_tail}
 use Rattle.vcpu_run.proofs.PlainReady.{all_front}
 use Rattle.vcpu_run.proofs.PlainAsks.{answer_to}
 use Rattle.vcpu_run.proofs.PlainServed.{all_kept, all_spared, answers_move}
 use Rattle.vcpu_run.proofs.PlainStarts.{KeepPlaces, starts_behind}
+use Rattle.vcpu_run.proofs.PlainRejected.{says_move}
 
 -- the first entry tells of the first answer
 pub answers_head : (window : PortState) (entry : Entry) (entries : List Entry) (asked : List Ask) (answers : List Iu) → HaveAnswers window (entry ∷ entries) asked answers
@@ -107,7 +108,8 @@ takes_talk granted at at' asked answers entry oldest others talk takes = (
           ∙ ap (λ (u : Unit). on_behind (nat_le 1 u.logins.current) (asked.pending ++ asked.coming)) (sym takes.unit);
       on = λ has. subst (λ (u : Unit). 1 ≤ u.logins.current) (sym takes.unit) (talk.login.on (has_is ∙ has));
       answer = λ has. ap is_some takes.granted ∙ talk.login.answer (has_is ∙ has) ∙ ap not grants_is;
-      grant = All-tail (SaysOfLogin granted) answer rest (subst (All (SaysOfLogin granted)) head.5 talk.login.grant);
+      grant = says_move granted at.unit.id at'.unit.id at.window at'.window (ap (λ (u : Unit). u.id) takes.unit) takes.keeps.unit takes.keeps.strokes rest
+          (All-tail (IsAnswerBy granted at.unit.id at.window) answer rest (subst (All (IsAnswerBy granted at.unit.id at.window)) head.5 talk.login.grant));
     };
   },
 )

@@ -83,7 +83,7 @@ come_through names granted unit unit' server server' verbs.Fail p now own is = f
 
 pub failed_through : (names : List GName) (unit unit' : Unit) (server server' : EndState) (own : Own) → WasFailed (beside unit server own)
     → WasFailed (beside unit' server' (own_lent names own))
-failed_through names unit unit' server server' own is = record { registered = is.registered; kept = is.kept }
+failed_through names unit unit' server server' own is = record { laid = is.laid; registered = is.registered; kept = is.kept }
 
 pub ends_through : (names : List GName) (granted : ℕ) (unit unit' : Unit) (server server' : EndState) (now : Replay) (own : Own) → RestsAs granted now (beside unit server own)
     → RestsAs granted now (beside unit' server' (own_lent names own))
@@ -134,13 +134,15 @@ replayed_through names granted unit server verb p now own words (steps.Waits did
 pub steps_through : (a b x y : List GName) (verb : Verb) (p p' : Progress) (old new : Own) (result : Result Step NoMemory)
     → StepsPlainly verb p p' (own_lent a old) (own_lent b new) result → StepsPlainly verb p p' (own_lent x old) (own_lent y new) result
 steps_through a b x y verb p p' old new result is plain granted unit server server' now spares stays talks come =
-    ok_more result (StepsOn granted verb p' now (length old.client.rows) (owes (beside unit server old) []) (beside unit server' (own_lent b new)))
-    (StepsOn granted verb p' now (length old.client.rows) (owes (beside unit server old) []) (beside unit server' (own_lent y new)))
+    ok_more result (StepsOn granted verb p' now (length old.client.rows) (owes (beside unit server old) []) old.answers new.answers (beside unit server' (own_lent b new)))
+    (StepsOn granted verb p' now (length old.client.rows) (owes (beside unit server old) []) old.answers new.answers (beside unit server' (own_lent y new)))
     (λ step on. record {
       words = on.words;
       talks = talks_own y granted unit server' (own_lent b new) on.words on.talks;
       anew = on.anew;
       told = on.told;
+      laid = on.laid;
+      noted = on.noted;
       replayed = replayed_through y granted unit server' verb p' now (own_lent b new) on.words step on.replayed;
     })
     (is plain granted unit server server' now spares (stays_through a b unit server server' (own_lent x old) (own_lent y new) stays)
@@ -150,6 +152,6 @@ pub rests_through : (a b x y : List GName) (old new : Own) (result : Result Move
     → RestsPlainly (own_lent x old) (own_lent y new) result
 rests_through a b x y old new result is granted unit server server' now stays talks follows =
     ok_more result _ _
-    (λ moved (talks', later, tag, left). (talks_own y granted unit server' (own_lent b new) [] talks', later, tag, ends_through y granted unit unit server' server' later (own_lent b new) left))
+    (λ moved (talks', later, tag, left, notes). (talks_own y granted unit server' (own_lent b new) [] talks', later, tag, ends_through y granted unit unit server' server' later (own_lent b new) left, notes))
     (is granted unit server server' now (stays_through a b unit server server' (own_lent x old) (own_lent y new) stays)
     (talks_own a granted unit server (own_lent x old) [] talks) (ends_through a granted unit unit server server now (own_lent x old) follows))

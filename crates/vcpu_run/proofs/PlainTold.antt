@@ -1,5 +1,5 @@
 -- What a gathered trace says of plain clients: each did exactly what its script says.
-use Rattle.std.proofs.Common.{◌≡◌, ◌≢◌, ◌∙◌, inl, inr, ℕ, ◌≤◌, ◌==◌, true, All, List, [], ◌∷◌, IsSomeAnd, drop, filter, get_or, length, map, slice_get, refl, sym, ap, subst, arith, false, Contains, IfSome, Option, Some, None}
+use Rattle.std.proofs.Common.{◌≡◌, ◌≢◌, ◌∙◌, inl, inr, ℕ, ◌≤◌, ◌==◌, Bool, true, All, List, [], ◌∷◌, IsSomeAnd, drop, filter, get_or, length, map, slice_get, refl, sym, ap, subst, arith, false, Contains, IfSome, Option, Some, None}
 use Rattle.std.proofs.lemmas.List.{drop_all, get_or-map, length-map}
 use Rattle.std.proofs.lemmas.List.Elements.{All-nil}
 use Rattle.std.specs.List.{AllPairs, flat_map}
@@ -16,9 +16,11 @@ use Rattle.tce_window.specs.PortState.{PortState}
 use Rattle.tce_window.specs.Strokes.{AllWithin}
 use Rattle.tce_window.specs.Window.{strokes_at}
 use Rattle.rdma_copy.specs.declared.copy.CopyRecord.{CopyRecord}
+use Rattle.block_server.specs.Causes.{Told, anything}
 use Rattle.block_server.specs.Makers.{same_unit}
 use Rattle.block_server.specs.RowsOn.{row_tag}
 use Rattle.block_server.specs.Talk.{HearsAll, SayWords, Word, talk_of, to_come}
+use Rattle.block_server.specs.Written.{IsAnswerWritten}
 use Rattle.block_server.specs.declared.unit.Unit.{Unit}
 use Rattle.boot_text.specs.Sound.{IsServer}
 use Rattle.boot_text.specs.declared.plan.Line.{Line}
@@ -27,15 +29,18 @@ use Rattle.boot_text.specs.declared.plan.UnitPlan.TheVariants as units
 use Rattle.lan_script.specs.Units.{LanValue}
 use Rattle.lan_script.specs.declared.rows.LanRows.{LanRows}
 use Rattle.vio_trace.specs.declared.rows.LogRow.{LogRow}
+use Rattle.vcpu_run.specs.Answered.{AreBegun}
+use Rattle.vcpu_run.specs.AnswersTaken.{answers_to}
 use Rattle.vcpu_run.specs.Credited.{Ended, ended_by}
 use Rattle.vcpu_run.specs.Gathered.{HasLawfulQueue, HasLawfulWindow, IsLawfulWindow, logs_of, queue_at, trace_of, window_at}
 use Rattle.vcpu_run.specs.LinesShow.{seen_at}
 use Rattle.vcpu_run.specs.Links.{IsEmptied, link_state}
 use Rattle.vcpu_run.specs.Machines.{AreScripts, IsOfPlan, server_id}
 use Rattle.vcpu_run.specs.PlainBorne.{AreBorne, rows_by}
-use Rattle.vcpu_run.specs.PlainClients.{HaveOtherTags, IsPlainClient, PlainClientsAreScripted, granted_in, grants_of, IsDataOfRow}
+use Rattle.vcpu_run.specs.PlainClients.{FitsAnswers, HasAnswerRow, HaveOtherTags, IsPlainClient, PlainClientsAreScripted, granted_in, grants_of, IsDataOfRow, strokes_of}
+use Rattle.vcpu_run.specs.PlainNoted.{AreAnswers, AreAskedFor, IsLaidAnswer}
 use Rattle.vcpu_run.specs.PlainPairs.{EndByClient, IsPlainPair, IsReadyPair, ServerBooks, between_of, books_of}
-use Rattle.vcpu_run.specs.PlainRows.{IsAnswerFor, tags_by}
+use Rattle.vcpu_run.specs.PlainRows.{IsAnswerEntry, IsAnswerFor, tags_by}
 use Rattle.vcpu_run.specs.PlainRuns.{ArePlain}
 use Rattle.vcpu_run.specs.PlainScripts.{StandsPlainly, told_in}
 use Rattle.vcpu_run.specs.Ports.{unit_of}
@@ -52,17 +57,25 @@ use Rattle.vcpu_run.specs.declared.pair.Pair.{Pair}
 use Rattle.vcpu_run.specs.declared.script.Script.{Script}
 use Rattle.vcpu_run.specs.declared.unit_seat.Seat.TheVariants as sits
 use Rattle.vcpu_run.specs.declared.unit_seat.UnitSeat.{UnitSeat}
+use Rattle.vcpu_run.proofs.AnswersFound.{client_answers, client_entries}
 use Rattle.vcpu_run.proofs.Driving.{some_is}
 use Rattle.vcpu_run.proofs.Following.{each_from_all}
 use Rattle.vcpu_run.proofs.Listed.{held}
 use Rattle.vcpu_run.proofs.Parts.{IsIn, each_in}
+use Rattle.vcpu_run.proofs.PlainAnswerRows.{answer_rows}
 use Rattle.vcpu_run.proofs.PlainDataBorne.{bear_all}
 use Rattle.vcpu_run.proofs.PlainDataTold.{data_of_rows}
+use Rattle.vcpu_run.proofs.PlainFitting.{entries_fit}
 use Rattle.vcpu_run.proofs.PlainSums.{BearAll}
 use Rattle.vcpu_run.proofs.RecordLaws.{lines_in}
-use Rattle.vcpu_run.proofs.RefusalsTold.{client_pages, own_records}
+use Rattle.vcpu_run.proofs.RowCopies.{written_each}
+use Rattle.vcpu_run.proofs.RefusalsTold.{client_pages, own_records, trace_sees}
 use Rattle.vcpu_run.proofs.Seated.{planned_in}
 use Rattle.vcpu_run.proofs.Settling.{emptied, script_at, servers_home}
+use Rattle.vcpu_run.proofs.PlainTellings.{lines_move}
+use Rattle.vcpu_run.specs.PlainRejected.{TellsOf}
+use Rattle.tce_window.specs.PlainPort.{known_of}
+use Rattle.vcpu_run.specs.Pairs.{AreOfOneHome}
 
 -- ---- no two rows of the server unit have one tag
 
@@ -92,12 +105,12 @@ emptied_come pair empty =
 
 -- What a pair has of its server unit: no fewer logins were granted than its client was told of, they end by the client alone, and no two rows
 -- have one tag.
-record HasBooks (told : ℕ) (unit : UnitId) (lines : List Grant) (rows : List Served) : Type 0 where
-  granted : told ≤ grants_of unit lines
+record HasBooks (told : List Ended) (unit : UnitId) (lines : List Grant) (rows : List Served) : Type 0 where
+  granted : granted_in told ≤ grants_of unit lines
   ends : EndByClient unit lines
   tags : AllPairs HaveOtherTags (filter (λ row. same_unit row.unit unit) rows)
 
-books_plain : (granted told home k : ℕ) (books : ServerBooks) (words : List Word) (pair : Pair) → IsEmptied (link_state pair.link).server → IsPlainPair granted told home books k words pair
+books_plain : (granted : ℕ) (told : List Ended) (home k : ℕ) (books : ServerBooks) (words : List Word) (pair : Pair) → IsEmptied (link_state pair.link).server → IsPlainPair granted told home books k words pair
     → HasBooks told (server_id home k) books.lines books.rows
 books_plain granted told home k books words pair empty is =
     let none : words ≡ [] = no_words (between_of is.unit is.driver pair).window (to_come (end_of [] pair.link true)) words (emptied_come pair empty) is.talks.calm.said in
@@ -105,7 +118,7 @@ books_plain granted told home k books words pair empty is =
     subst (λ (list : List Word). HearsAll (talk_of is.unit) (length (taken_now (end_of [] pair.link true))) list (talk_of is.unit)) (sym none) refl in
     record { granted = omega (arith, is.owed); ends = is.lines; tags = tags_apart (filter (λ (row : Served). same_unit row.unit (server_id home k)) books.rows) (is.tags (talk_of is.unit) heard).apart }
 
-books_ready : (granted told home k : ℕ) (books : ServerBooks) (pair : Pair) → IsEmptied (link_state pair.link).server → IsReadyPair granted told home books k pair
+books_ready : (granted : ℕ) (told : List Ended) (home k : ℕ) (books : ServerBooks) (pair : Pair) → IsEmptied (link_state pair.link).server → IsReadyPair granted told home books k pair
     → HasBooks told (server_id home k) books.lines books.rows
 books_ready granted told home k books pair empty (inl (words, is)) = books_plain granted told home k books words pair empty is
 books_ready granted told home k books pair empty (inr new) = record {
@@ -116,16 +129,21 @@ books_ready granted told home k books pair empty (inr new) = record {
 
 -- ---- what was put into the client's queue, and what its lines say of data
 
--- The pair has a client; what was put into its queue as an answer to a command with data-in has a row of this unit; no two of those rows have one tag;
--- and what the unit laid behind the slots bears data-in of them.
+-- The pair has a client; what was put into its queue as an answer to a command with data-in has a row of this unit; no two of those rows
+-- have one tag; and what the unit laid behind the slots bears data-in of them. What it laid in the slots answers them, they ask for as much
+-- as the client's commands, and what the client noted was laid there.
 record HasAnswersFor (unit : UnitId) (rows : List Served) (pair : Pair) : Type 0 where
   driver : Driver
   driver_is : pair.driver ≡ Some driver
   put : All (λ (row : PipeRow). IsAnswerFor (tags_by unit rows) driver.client.rows row.entry) (side_of pair.link false).queue.sent
+  entries : All (λ (row : PipeRow). IsAnswerEntry (rows_by unit rows) row.entry) (side_of pair.link false).queue.sent
   apart : AllPairs (λ a b. a ≢ b) (tags_by unit rows)
   borne : AreBorne (rows_by unit rows) unit driver.client.rows (strokes_at pair.window.pages)
+  answered : AreAnswers (rows_by unit rows) pair.window.unit (known_of pair.window).strokes
+  sized : AreAskedFor (rows_by unit rows) driver.client.rows
+  noted : All (IsLaidAnswer pair.window.unit (known_of pair.window).strokes) driver.answers.items
 
-answers_ready : (granted told home k : ℕ) (books : ServerBooks) (pair : Pair) → IsEmptied (link_state pair.link).server → IsReadyPair granted told home books k pair
+answers_ready : (granted : ℕ) (told : List Ended) (home k : ℕ) (books : ServerBooks) (pair : Pair) → IsEmptied (link_state pair.link).server → IsReadyPair granted told home books k pair
     → HasAnswersFor (server_id home k) books.rows pair
 answers_ready granted told home k books pair empty (inl (words, is)) =
     let none : words ≡ [] = no_words (between_of is.unit is.driver pair).window (to_come (end_of [] pair.link true)) words (emptied_come pair empty) is.talks.calm.said in
@@ -135,39 +153,65 @@ answers_ready granted told home k books pair empty (inl (words, is)) =
       driver = is.driver;
       driver_is = is.driver_is;
       put = (is.answers (talk_of is.unit) heard).put;
+      entries = (is.entries (talk_of is.unit) heard).put;
       apart = (is.tags (talk_of is.unit) heard).apart;
       borne = is.borne;
+      answered = is.answered;
+      sized = is.sized;
+      noted = is.noted;
     }
 answers_ready granted told home k books pair empty (inr new) = record {
   driver = new.driver;
   driver_is = new.driver_is;
   put = subst (All (λ (row : PipeRow). IsAnswerFor (tags_by (server_id home k) books.rows) new.driver.client.rows row.entry)) (sym new.sent)
       (All-nil (λ (row : PipeRow). IsAnswerFor (tags_by (server_id home k) books.rows) new.driver.client.rows row.entry));
+  entries = subst (All (λ (row : PipeRow). IsAnswerEntry (rows_by (server_id home k) books.rows) row.entry)) (sym new.sent)
+      (All-nil (λ (row : PipeRow). IsAnswerEntry (rows_by (server_id home k) books.rows) row.entry));
   apart = none_apart (tags_by (server_id home k) books.rows) new.tags;
   borne = new.borne;
+  answered = new.answered;
+  sized = new.sized;
+  noted = new.noted;
 }
 
 taken_at : (own : List Ended) (pair : Pair) (o : Option Driver) (driver : Driver) → o ≡ Some driver → IfSome o (IsTaken own pair) → IsTaken own pair driver
 taken_at own pair None driver is taken = absurd (cc (is))
 taken_at own pair (Some other) driver is taken = subst (IsTaken own pair) (some_is other driver is) taken
 
-data_told : (unit : UnitId) (rows : List Served) (own : List Ended) (pair : Pair) (granted pages : ℕ) → pair.server ≡ unit → AllWithin (strokes_at pair.window.pages)
-    → IsLawfulPipe (side_of pair.link false).queue → HasAnswersFor unit rows pair → PairTaken own pair → IsReplayed granted pages before_lines own → (e : Ended) → Contains own e
-    → IsDataOfRow rows unit e
-data_told unit rows own pair granted pages same within laws has taken replayed =
+data_told : (unit : UnitId) (rows : List Served) (own : List Ended) (pair : Pair) (granted pages size : ℕ) (told : Told → Bool) → pair.server ≡ unit → AllWithin (strokes_at pair.window.pages)
+    → IsLawfulPipe (side_of pair.link false).queue → HasAnswersFor unit rows pair → All (IsAnswerWritten size told) rows → PairTaken own pair → IsReplayed granted pages before_lines own
+    → (e : Ended) → Contains own e → IsDataOfRow rows unit e
+data_told unit rows own pair granted pages size told same within laws has written taken replayed =
     let is : IsTaken own pair has.driver = taken_at own pair pair.driver has.driver has.driver_is taken in
-    data_of_rows (seen_at pair) pair.server has.driver.client has.driver.answers.items (side_of pair.link false).queue own rows unit granted pages
-    (record { laws = laws; order = is.given.order; kept = is.kept; reads = is.reads }) has.put replayed
+    data_of_rows (seen_at pair) pair.server has.driver.client has.driver.answers.items (side_of pair.link false).queue own rows unit pair.window.unit (known_of pair.window).strokes granted pages
+    (record { laws = laws; order = is.given.order; kept = is.kept; reads = is.reads }) has.put
+    (record { apart = has.apart; answered = has.answered; sized = has.sized; noted = has.noted; told = told; size = size; written = written }) replayed
     (λ tag len range row inward behind there tag_is. subst (λ (id : UnitId). BearAll (seen_at pair) (record { who = id; mark = tag }) range row.inn) (sym same)
     (bear_all pair unit (rows_by unit rows) has.driver.client.rows tag len range row (record { within = within; apart = has.apart; borne = has.borne }) there tag_is inward behind))
+
+-- ---- what the answers of the rows say
+
+-- Each that has one is in form, whatever the units were told.
+rows_written : (copies : List CopyRecord) (grants : List Grant) (history : List Served) (pairs : List Pair) (scripts : List Script) → (rests : AreAtRest copies grants history pairs scripts)
+    → All (IsAnswerWritten rests.size anything) history
+rows_written copies grants history pairs scripts rests =
+    subst (All (IsAnswerWritten rests.size anything)) rests.rows_are
+    (written_each rests.size anything rests.records.history.items (rests.heard.all anything (λ k pair there news heard. refl)).written)
+
+-- ---- the logins that were rejected
+
+laid_ready : (granted : ℕ) (told : List Ended) (home k : ℕ) (books : ServerBooks) (pair : Pair) → IsReadyPair granted told home books k pair
+    → All (TellsOf (server_id home k) (known_of pair.window).strokes) told
+laid_ready granted told home k books pair (inl (words, is)) = subst (λ (unit : UnitId). All (TellsOf unit (known_of pair.window).strokes) told) is.id is.laid
+laid_ready granted told home k books pair (inr new) = subst (λ (unit : UnitId). All (TellsOf unit (known_of pair.window).strokes) told) new.id new.laid
 
 -- ---- the trace
 
 pub scripted_are : (pairs : List Pair) (scripts : List Script) (lan : LanValue) (lan_rows : LanRows) (history : List Served) (grants : List Grant) (copies : List CopyRecord) (partitions : List Partition)
-    → AreScripts pairs lan.seats scripts → All (HasLawfulQueue pairs) (seats_of scripts) → All (HasLawfulWindow pairs lan) (seats_of scripts) → IsOfPlan partitions pairs scripts lan.seats → AreTold pairs scripts
+    → AreOfOneHome copies pairs → AreScripts pairs lan.seats scripts → All (HasLawfulQueue pairs) (seats_of scripts) → All (HasLawfulWindow pairs lan) (seats_of scripts) → IsOfPlan partitions pairs scripts lan.seats → AreTold pairs scripts
     → AreAtRest copies grants history pairs scripts → (granted home : ℕ) (list : List Unit) → ArePlain granted home (books_of list grants history) pairs scripts
     → PlainClientsAreScripted granted partitions (trace_of pairs scripts lan lan_rows history grants copies)
-scripted_are pairs scripts lan lan_rows history grants copies partitions are lawful windows of_plan told rests granted home list plain client server is plainly =
+scripted_are pairs scripts lan lan_rows history grants copies partitions one_home are lawful windows of_plan told rests granted home list plain client server is plainly =
     let p = client.partition in
     let at = script_at partitions pairs scripts lan.seats client (units.Client server is.0 is.1) of_plan is.2 in
     let script = at.0 in
@@ -206,7 +250,20 @@ scripted_are pairs scripts lan lan_rows history grants copies partitions are law
     (told p script at.1 (record { others = stands.others; no_call = plain_lines.no_call })).taken.kept client.unit server.unit ready.0 at.2 ready.1 in
     let answers : HasAnswersFor server history ready.0 =
     subst (λ (unit : UnitId). HasAnswersFor unit history ready.0) name (answers_ready granted (told_in client.unit script) home server.unit (books_of list grants history) ready.0 empty.0 ready.2) in
+    let trace = trace_of pairs scripts lan lan_rows history grants copies in
+    let noted : All (HasAnswerRow history server) (answers_to trace client) =
+    subst (All (HasAnswerRow history server))
+    (sym (client_answers partitions pairs scripts lan lan_rows history grants copies client server ready.0 answers.driver are of_plan is ready.1 answers.driver_is))
+    (answer_rows server ready.0.window.unit client history (known_of ready.0.window).strokes answers.driver.answers.items answers.answered answers.noted) in
+    let begun : AreBegun (side_of ready.0.link false).queue.taken =
+    (taken_at (own_of client.unit script) ready.0 ready.0.driver answers.driver answers.driver_is taken).given.begun in
+    let sees = trace_sees partitions pairs scripts lan lan_rows history grants copies client server ready.0 one_home are lawful windows of_plan is ready.1 in
+    let laid : All (TellsOf server (strokes_of trace client)) (ended_by client.unit script.lines.now script.logs.items) =
+    lines_move (server_id home server.unit) server (known_of ready.0.window).strokes (strokes_of trace client) (sym name) sees.strokes (told_in client.unit script)
+    (laid_ready granted (told_in client.unit script) home server.unit (books_of list grants history) ready.0 ready.2) in
     record {
+      rejected = subst (λ (ls : List Line). All (TellsOf server (strokes_of trace client)) (ended_by client.unit ls (filter (λ (row : LogRow). row.partition == p) (flat_map logs_of scripts)))) (sym lines)
+          (subst (λ (rows : List LogRow). All (TellsOf server (strokes_of trace client)) (ended_by client.unit script.lines.now rows)) (sym (own_records pairs scripts lan p script are at.1)) laid);
       records = subst (λ n. IsReplayed granted n before_lines (ended_by client.unit (script_of partitions p) (filter (λ (row : LogRow). row.partition == p) (flat_map logs_of scripts)))) (sym pages)
           (subst (λ (ls : List Line). IsReplayed granted (length pair.0.window.pages) before_lines (ended_by client.unit ls (filter (λ (row : LogRow). row.partition == p) (flat_map logs_of scripts)))) (sym lines)
           (subst (λ (rows : List LogRow). IsReplayed granted (length pair.0.window.pages) before_lines (ended_by client.unit script.lines.now rows)) (sym (own_records pairs scripts lan p script are at.1)) replayed));
@@ -217,7 +274,12 @@ scripted_are pairs scripts lan lan_rows history grants copies partitions are law
       tags = books.tags;
       reads = subst (λ (ls : List Line). (e : Ended) → Contains (ended_by client.unit ls (filter (λ (row : LogRow). row.partition == p) (flat_map logs_of scripts))) e → IsDataOfRow history server e) (sym lines)
           (subst (λ (rows : List LogRow). (e : Ended) → Contains (ended_by client.unit script.lines.now rows) e → IsDataOfRow history server e) (sym (own_records pairs scripts lan p script are at.1))
-          (data_told server history (own_of client.unit script) ready.0 granted (length pair.0.window.pages) same law.within laws answers taken replayed));
+          (data_told server history (own_of client.unit script) ready.0 granted (length pair.0.window.pages) rests.size anything same law.within laws answers
+          (rows_written copies grants history pairs scripts rests) taken replayed));
+      answers = noted;
+      entries = subst (All (λ (row : PipeRow). FitsAnswers (answers_to trace client) row.entry))
+          (sym (client_entries partitions pairs scripts lan lan_rows history grants copies client server ready.0 are of_plan is ready.1 laws begun))
+          (entries_fit server history (answers_to trace client) rests.size anything (side_of ready.0.link false).queue laws noted (rows_written copies grants history pairs scripts rests) answers.entries);
     }
 
 -- ---- the same books, pairs and scripts

@@ -133,7 +133,7 @@ took_one granted at at' asked answers taken calm talk idle takes only reads stay
       own = left.own;
       within = first.tells.has.within;
       bytes = first.tells.has.bytes;
-      stand = left.keeps first.oldest.slot first.tells.has.bytes first.tells.has.within tt first.tells.has.whole first.tells.has.stand;
+      stand = left.keeps.slots first.oldest.slot first.tells.has.bytes first.tells.has.within tt first.tells.has.whole first.tells.has.stand;
       whole = first.tells.has.whole;
       response = first.tells.has.response;
       spelled = first.tells.has.spelled;

@@ -1,5 +1,5 @@
--- A plain client and its server unit at their pair: through which borrows the link is reached does not matter, and what a turn leaves of the window and of
--- what is pending.
+-- A plain client and its server unit at their pair: through which borrows the link is reached does not matter, and what a turn leaves of
+-- the window and of what is pending.
 use Rattle.std.proofs.Common.{◌≡◌, ◌∙◌, ◌+◌, ◌*◌, ◌<◌, ◌≤◌, ◌∷◌, length, inl, inr, ℕ, All, false, List, [], Some, IsSome, refl, sym, ap, subst}
 use Rattle.std.specs.Borrow.{GName}
 use Rattle.std.specs.Prelude.{⊤}

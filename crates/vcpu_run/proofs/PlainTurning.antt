@@ -14,7 +14,7 @@ use Rattle.vscsi_client.specs.State.{ClientState, new_client}
 use Rattle.vcpu_run.specs.Credited.{Ended, ended_by}
 use Rattle.vcpu_run.specs.Pairs.{AreDriven}
 use Rattle.vcpu_run.specs.PlainClients.{granted_in}
-use Rattle.vcpu_run.specs.PlainScripts.{AllRestPlainly, AllTalkOn, EndsPlainly, IsPlainSeat, OfUnit, PairAsks, PairIs, PairTalks, QuietsPlainly, StandsAt, StandsPlainly, StandsPlainlyAt, TurnedPlainly, TurnsPlainly, after_ended, awaits, owes_at, owes_to, rows_in, told_in}
+use Rattle.vcpu_run.specs.PlainScripts.{AllRestPlainly, AllTalkOn, EndsPlainly, IsPlainSeat, OfUnit, PairAsks, PairIs, PairNotes, PairTalks, QuietsPlainly, StandsAt, StandsPlainly, StandsPlainlyAt, TurnedPlainly, TurnsPlainly, after_ended, answers_in, awaits, owes_at, owes_to, rows_in, told_in}
 use Rattle.vcpu_run.specs.PlainPairs.{between_of}
 use Rattle.vcpu_run.specs.PlainSteps.{AreReplayedAs, FollowsReplay, HasCome, RestsAs, WasFailed}
 use Rattle.vcpu_run.specs.PlainTalk.{Between, TalksPlainly}
@@ -32,12 +32,17 @@ use Rattle.vcpu_run.proofs.Crediting.{here_or}
 use Rattle.vcpu_run.proofs.DataNoted.{keep_clients, keep_gives, keep_on}
 use Rattle.vcpu_run.proofs.Driving.{some_is}
 use Rattle.vcpu_run.proofs.Listed.{held, held_is, is_held}
+use Rattle.vcpu_run.proofs.PlainAreLaid.{laid_same}
 use Rattle.vcpu_run.proofs.PlainAsking.{follows_still}
 use Rattle.vcpu_run.proofs.PlainReplayed.{come_still}
 use Rattle.vcpu_run.proofs.PlainOwed.{idle_owes, one_if, owes_none}
-use Rattle.vcpu_run.proofs.PlainScripted.{anew_at, ended_other, other_ends, owed_at, pair_still, stands_next}
+use Rattle.vcpu_run.proofs.PlainScripted.{anew_at, ended_other, noted_at, notes_none, other_ends, owed_at, pair_still, stands_next}
 use Rattle.vcpu_run.proofs.ScriptsTold.{EndsWaiting, of_login, of_reset, of_take}
 use Rattle.vcpu_run.proofs.SeatPairs.{after_of, before_of}
+use Rattle.vcpu_run.proofs.PlainSeated.{pair_is, pair_was}
+use Rattle.vcpu_run.proofs.PlainTellings.{driven_tell}
+use Rattle.tce_window.specs.PlainPort.{known_of}
+use Rattle.tce_window.specs.PortState.{PortPlace}
 
 -- ---- behind the last line
 
@@ -67,10 +72,12 @@ rests_plainly old new script over are driven rests gives granted u k unit seat t
     let later = rests k was.0 after.0 was.1 after.1 granted unit follows.0 was.2 follows.1 in
     record {
       words = [];
-      owed = owed_at k (told_in u script) (told_in u script) unit old new was.0 after.0 [] was.1 after.1
+      laid = λ before after there here. driven_tell unit.id k old new before after (told_in u script) driven there here;
+      owed = owed_at k (granted_in (told_in u script)) (granted_in (told_in u script)) unit old new was.0 after.0 [] was.1 after.1
           (omega (arith, rests_owe granted unit later.2 after.0 later.0 later.3));
       talks = is_held (PairTalks granted unit []) (slice_get new k) after.0 after.1 later.0;
       anew = anew_at k old new was.0 after.0 [] was.1 after.1 later.1;
+      noted = noted_at k old new was.0 after.0 was.1 after.1 (later.4 (answers_in was.0.driver) (notes_none was.0 was.0 refl));
       keeps = keep_gives old new gives;
       stands = is_held (StandsPlainly granted u script) (slice_get new k) after.0 after.1 (record {
         replayed = subst (λ n. IsReplayed granted n before_lines (ended_by u script.lines.now script.logs.items)) (sym pages) stands.replayed;
@@ -85,15 +92,44 @@ rests_quietly old new script over granted u k unit seat talks stood idle =
 
 -- ---- the client is as it was
 
-was_still : (at at' : Between) → at'.client ≡ at.client → at'.own.registered ≡ at.own.registered → WasFailed at → WasFailed at'
-was_still at at' client registered is = record {
+rests_either : (granted : ℕ) (later : Replay) (before after : Pair) → after.driver ≡ before.driver → (side_of after.link false).registered ≡ (side_of before.link false).registered
+    → (PairIs WasFailed before → PairIs WasFailed after) → PairIs (RestsAs granted later) before → PairIs (RestsAs granted later) after
+rests_either granted later before after driver queue failed is =
+    subst (λ (o : Option Driver). IsSomeAnd o (λ d. (unit : Unit) → RestsAs granted later (between_of unit d after))) (sym driver) (by before.driver refl is)
+  where
+    by : (o : Option Driver) → before.driver ≡ o → IsSomeAnd o (λ d. (unit : Unit) → RestsAs granted later (between_of unit d before))
+        → IsSomeAnd o (λ d. (unit : Unit) → RestsAs granted later (between_of unit d after))
+    by None e h = absurd h
+    by (Some d) e h = λ unit. at unit (h unit)
+      where
+        at : (unit : Unit) → RestsAs granted later (between_of unit d before) → RestsAs granted later (between_of unit d after)
+        at unit (inl f) = inl (follows_still granted later (between_of unit d before) (between_of unit d after) f refl queue)
+        at unit (inr f) = inr (pair_was WasFailed after d (driver ∙ e)
+            (failed (pair_is WasFailed before d e (λ other. record { laid = f.laid; registered = f.registered; kept = f.kept }))) unit)
+
+pub was_still : (at at' : Between) → at'.client ≡ at.client → at'.own.registered ≡ at.own.registered → at'.window.place ≡ at.window.place
+    → ((page : ℕ) → at'.window.strokes page ≡ at.window.strokes page) → WasFailed at → WasFailed at'
+was_still at at' client registered place strokes is = record {
+  laid = laid_same at.client at'.client at.window at'.window (ap (λ (s : ClientState). s.kept) client) (ap (λ (s : ClientState). s.outgoing) client)
+      (ap (λ (p : PortPlace). p.unit) place) (ap (λ (p : PortPlace). p.size) place) strokes is.laid;
   registered = registered ∙ is.registered;
   kept = subst (λ (s : ClientState). All (λ (entry : Entry). is_srp_entry entry ≡ true) s.kept) (sym client) is.kept;
 }
 
-stands_still : (granted u : ℕ) (script : Script) (before after : Pair) → after.driver ≡ before.driver → length after.window.pages ≡ length before.window.pages
+-- its partition failed, and its window is as it was
+pub failed_still : (before after : Pair) → after.driver ≡ before.driver → (side_of after.link false).registered ≡ (side_of before.link false).registered
+    → (known_of after.window).place ≡ (known_of before.window).place → ((page : ℕ) → (known_of after.window).strokes page ≡ (known_of before.window).strokes page)
+    → PairIs WasFailed before → PairIs WasFailed after
+failed_still before after driver queue place strokes is =
+    subst (λ (o : Option Driver). IsSomeAnd o (λ d. (unit : Unit) → WasFailed (between_of unit d after))) (sym driver) (by before.driver is)
+  where
+    by : (o : Option Driver) → IsSomeAnd o (λ d. (unit : Unit) → WasFailed (between_of unit d before)) → IsSomeAnd o (λ d. (unit : Unit) → WasFailed (between_of unit d after))
+    by None h = absurd h
+    by (Some d) h = λ unit. was_still (between_of unit d before) (between_of unit d after) refl queue place strokes (h unit)
+
+stands_still : (granted u : ℕ) (script : Script) (before after : Pair) → (PairIs WasFailed before → PairIs WasFailed after) → after.driver ≡ before.driver → length after.window.pages ≡ length before.window.pages
     → (side_of after.link false).registered ≡ (side_of before.link false).registered → StandsPlainly granted u script before → StandsPlainly granted u script after
-stands_still granted u script before after driver pages queue stood = record {
+stands_still granted u script before after failed driver pages queue stood = record {
   replayed = subst (λ n. IsReplayed granted n before_lines (ended_by u script.lines.now script.logs.items)) (sym pages) stood.replayed;
   stands = subst (λ n. StandsAt granted u (slice_get script.lines.now script.at) script.progress (after_ended granted n before_lines (ended_by u script.lines.now script.logs.items)) after) (sym pages)
       (by (slice_get script.lines.now script.at) (after_ended granted (length before.window.pages) before_lines (ended_by u script.lines.now script.logs.items)) stood.stands);
@@ -102,15 +138,8 @@ stands_still granted u script before after driver pages queue stood = record {
     follows : (now : Replay) → PairIs (FollowsReplay granted now) before → PairIs (FollowsReplay granted now) after
     follows now = pair_still (FollowsReplay granted now) before after (λ at at' client registered f. follows_still granted now at at' f client registered) driver queue
 
-    failed : PairIs WasFailed before → PairIs WasFailed after
-    failed = pair_still WasFailed before after (λ at at' client registered f. was_still at at' client registered f) driver queue
-
     rests : (later : Replay) → PairIs (RestsAs granted later) before → PairIs (RestsAs granted later) after
-    rests later = pair_still (RestsAs granted later) before after (λ at at' client registered f. still later at at' client registered f) driver queue
-      where
-        still : (later : Replay) (at at' : Between) → at'.client ≡ at.client → at'.own.registered ≡ at.own.registered → RestsAs granted later at → RestsAs granted later at'
-        still later at at' client registered (inl f) = inl (follows_still granted later at at' f client registered)
-        still later at at' client registered (inr f) = inr (was_still at at' client registered f)
+    rests later = rests_either granted later before after driver queue failed
 
     by : (o : Option Line) (now : Replay) → StandsAt granted u o script.progress now before → StandsAt granted u o script.progress now after
     by None now is = (is.0, rests is.0 is.1)
@@ -122,9 +151,10 @@ stands_still granted u script before after driver pages queue stood = record {
         at true come = pair_still (HasCome granted line.verb script.progress now) before after (come_still granted line.verb script.progress now) driver queue come
         at false f = follows now f
 
-pub clients_stand : (granted u k : ℕ) (old new : List Pair) (script : Script) → (slice_get new k ≡ None → slice_get old k ≡ None) → SameClients old new → StandsPlainlyAt granted u k old script
+pub clients_stand : (granted u k : ℕ) (old new : List Pair) (script : Script) → (slice_get new k ≡ None → slice_get old k ≡ None)
+    → ((before after : Pair) → slice_get old k ≡ Some before → slice_get new k ≡ Some after → PairIs WasFailed before → PairIs WasFailed after) → SameClients old new → StandsPlainlyAt granted u k old script
     → StandsPlainlyAt granted u k new script
-clients_stand granted u k old new script there same stood = by (slice_get new k) refl
+clients_stand granted u k old new script there failed same stood = by (slice_get new k) refl
   where
     was : (pair : Pair) × (slice_get old k ≡ Some pair) × StandsPlainly granted u script pair
     was = held (StandsPlainly granted u script) (slice_get old k) stood
@@ -137,9 +167,9 @@ clients_stand granted u k old new script there same stood = by (slice_get new k)
     by (Some after) e = at (slice_get old k) refl (same k after e)
       where
         at : (o : Option Pair) → slice_get old k ≡ o → IsSomeAnd o (λ before. SameClient before after) → StandsPlainly granted u script after
-        at None e h = absurd h
-        at (Some before) e h =
-            stands_still granted u script before after h.driver h.pages h.queue (subst (StandsPlainly granted u script) (some_is was.0 before (sym was.1 ∙ e)) was.2)
+        at None e' h = absurd h
+        at (Some before) e' h =
+            stands_still granted u script before after (failed before after e' e) h.driver h.pages h.queue (subst (StandsPlainly granted u script) (some_is was.0 before (sym was.1 ∙ e')) was.2)
 
 -- ---- kept events are pushed first
 
@@ -148,6 +178,7 @@ record Pushed (granted u k : ℕ) (unit : Unit) (script : Script) (old mid : Lis
   talks : IsSomeAnd (slice_get mid k) (PairTalks granted unit [])
   stands : StandsPlainlyAt granted u k mid script
   rows : (before middle : Pair) → slice_get old k ≡ Some before → slice_get mid k ≡ Some middle → rows_in middle.driver ≡ rows_in before.driver
+  notes : (before middle : Pair) → slice_get old k ≡ Some before → slice_get mid k ≡ Some middle → answers_in middle.driver ≡ answers_in before.driver
   owes : (before middle : Pair) → slice_get old k ≡ Some before → slice_get mid k ≡ Some middle → owes_at unit [] middle ≡ owes_at unit [] before
   after : (middle : Pair) × (slice_get mid k ≡ Some middle)
 
@@ -157,9 +188,12 @@ pushed granted u k unit script old mid are driven same on seat talks stood =
     let was = held (PairTalks granted unit []) (slice_get old k) talks in
     let after = after_of script.partition u k script.seats.items old mid are driven seat.sits in
     record {
-      talks = is_held (PairTalks granted unit []) (slice_get mid k) after.0 after.1 (on k was.0 after.0 was.1 after.1 granted unit was.2);
-      stands = clients_stand granted u k old mid script (λ none. absurd (both (slice_get mid k) none after.1)) same stood;
+      talks = is_held (PairTalks granted unit []) (slice_get mid k) after.0 after.1 (on k was.0 after.0 was.1 after.1 granted unit was.2).0;
+      stands = clients_stand granted u k old mid script (λ none. absurd (both (slice_get mid k) none after.1))
+          (λ before middle there here. (on k before middle there here granted unit
+          (held_is (PairTalks granted unit []) (slice_get old k) before there talks)).1) same stood;
       rows = λ before middle there here. rows_at before middle (slice_get old k) there (same k middle here);
+      notes = λ before middle there here. answers_at before middle (slice_get old k) there (same k middle here);
       owes = λ before middle there here. owes_same before middle (slice_get old k) there (same k middle here);
       after = after;
     }
@@ -170,6 +204,10 @@ pushed granted u k unit script old mid are driven same on seat talks stood =
     rows_at : (before middle : Pair) (o : Option Pair) → o ≡ Some before → IsSomeAnd o (λ b. SameClient b middle) → rows_in middle.driver ≡ rows_in before.driver
     rows_at before middle None there h = absurd h
     rows_at before middle (Some b) there h = ap rows_in h.driver ∙ ap (λ (pair : Pair). rows_in pair.driver) (some_is b before there)
+
+    answers_at : (before middle : Pair) (o : Option Pair) → o ≡ Some before → IsSomeAnd o (λ b. SameClient b middle) → answers_in middle.driver ≡ answers_in before.driver
+    answers_at before middle None there h = absurd h
+    answers_at before middle (Some b) there h = ap answers_in h.driver ∙ ap (λ (pair : Pair). answers_in pair.driver) (some_is b before there)
 
     owed_of : (a b : Pair) → SameClient a b → (o : Option Driver) → owes_to unit [] o b ≡ owes_to unit [] o a
     owed_of a b is None = refl
@@ -189,6 +227,9 @@ pushes_plainly old mid new script later are driven same on turns granted u k uni
       words = turned.words;
       talks = turned.talks;
       anew = λ before after there here. subst (λ n. PairAsks n turned.words after) (p.rows before p.after.0 there p.after.1) (turned.anew p.after.0 after p.after.1 here);
+      noted = λ before after there here. subst (λ list. PairNotes list after) (p.notes before p.after.0 there p.after.1) (turned.noted p.after.0 after p.after.1 here);
+      laid = λ before after there here all.
+          turned.laid p.after.0 after p.after.1 here (driven_tell unit.id k old mid before p.after.0 (told_in u script) driven there p.after.1 all);
       owed = λ before after there here. omega (arith, p.owes before p.after.0 there p.after.1, turned.owed p.after.0 after p.after.1 here);
       keeps = keep_on old mid new driven (keep_clients old mid same) turned.keeps;
       stands = turned.stands;
@@ -208,7 +249,7 @@ waiting_ends granted u k pairs script done line row found many ends lines logs f
     let was = held (StandsPlainly granted u script) (slice_get pairs k) stood in (
       is_held (StandsPlainly granted u done) (slice_get pairs k) was.0 was.1
           (other_ends granted u script done line row was.0 found (goes ends) many lines logs fresh (other (here_or line.unit u)) was.2),
-      ap granted_in (ended_other u script done line row found many lines logs (other (here_or line.unit u))),
+      ended_other u script done line row found many lines logs (other (here_or line.unit u)),
     )
   where
     goes : EndsWaiting script.progress line.verb row.outcome → fails line.verb ≡ false

@@ -44,7 +44,7 @@ canon_some bytes (units.LoginRej r) canon = omega (arith, canon.unit.exact)
 
 -- ---- with other bytes behind them
 
-byte_more : (bytes rest : List ℕ) (at : ℕ) → at < length bytes → slice_index (bytes ++ rest) at ≡ slice_index bytes at
+pub byte_more : (bytes rest : List ℕ) (at : ℕ) → at < length bytes → slice_index (bytes ++ rest) at ≡ slice_index bytes at
 byte_more bytes rest at less = get_or_append_left bytes rest 0 at less
 
 from_more : (bytes rest : List ℕ) (i n : ℕ) → i + n ≤ length bytes → big_from i n (bytes ++ rest) ≡ big_from i n bytes

@@ -40,7 +40,8 @@ use Rattle.vcpu_run.proofs.ValuesBehind.{begins_as, behind_more}
 
 -- ---- what there was of a unit is there
 
--- the window of a LAN unit has as many pages, and its entries the values that they had; a stroke of its own in the region is of no line up to this one
+-- the window of a LAN unit has as many pages, and its entries the values that they had; a stroke of its own in the region is of no line up
+-- to this one
 window_grows : (lan lan' : LanValue) (unit : UnitId) (number : ℕ) → lan'.seats ≡ lan.seats
     → ((entry : ℕ) → Begins (values_at lan unit entry) (values_at lan' unit entry))
     → ((page : ℕ) → IsFrontOn unit (λ mark. number < mark) (strokes_at lan unit page) (strokes_at lan' unit page))

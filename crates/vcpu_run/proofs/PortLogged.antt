@@ -61,7 +61,8 @@ logged_last unit lines rows line row mark there own number = record {
 
 -- ---- a unit
 
--- no stroke is gone, and each that it laid in its own region bears the number of this line of its own, which is not one in the region while it goes on
+-- no stroke is gone, and each that it laid in its own region bears the number of this line of its own, which is not one in the region while
+-- it goes on
 pub record LaidBy (unit : UnitId) (line : Line) (ends : Bool) (old new : LanValue) : Type 0 where
   pub front : (page : ℕ) → IsFrontOn unit (λ m. m ≡ line.number) (strokes_at old unit page) (strokes_at new unit page)
   pub own : (page : ℕ) → IsFrontOn unit (λ m. (line.unit ≡ unit.unit) × (ends ≡ false → is_in_region line.verb ≡ false)) (strokes_at old unit page) (strokes_at new unit page)

@@ -39,9 +39,9 @@ named_more Hears More more buffer list is = record {
   named_is = is.named_is;
 }
 
-written_more : (Hears More : Hearing) → Includes Hears More → (iu answer : List ℕ) → (answer ≡ []) ⊎ IsWrittenOver Hears iu answer → (answer ≡ []) ⊎ IsWrittenOver More iu answer
-written_more Hears More more iu answer (inl none) = inl none
-written_more Hears More more iu answer (inr is) = inr (record { address = is.address; brought = more _ is.brought; written = more _ is.written })
+written_more : (size : ℕ) (told : Told → Bool) (More : Hearing) (row : Served) → Includes (told_to told row.unit) More → IsAnswerWritten size told row → (row.answer ≡ []) ⊎ IsWrittenOver More row.iu row.answer
+written_more size told More row more (inl none) = inl none
+written_more size told More row more (inr is) = inr (record { address = is.0.address; brought = more _ is.0.brought; written = more _ is.0.written })
 
 out_more : (Hears More : Hearing) → Includes Hears More → (row : Served) → (row.out ≡ []) ⊎ HasOutFetched Hears row → (row.out ≡ []) ⊎ HasOutFetched More row
 out_more Hears More more row (inl none) = inl none
@@ -102,10 +102,10 @@ explained_more Hears More more unit taken (Lapsed of session login lapses.OverLi
 explained_more Hears More more unit taken (Lapsed of session login lapses.Refused outstanding granted) is = λ own. either_more Hears More more taken session (is own)
 
 -- what is so of a row by what its unit was told
-pub copied_more : (told : Told → Bool) (More : Hearing) (server : UnitId) (row : Served) → Includes (told_to told server) More → row.unit ≡ server
-    → IsAnswerWritten told row → IsOutFetched told row → IsDelivered told row → IsCopied More row
-copied_more told More server row more own written out inn = record {
-  answer = written_more (told_to told row.unit) More by row.iu row.answer written;
+pub copied_more : (size : ℕ) (told : Told → Bool) (More : Hearing) (server : UnitId) (row : Served) → Includes (told_to told server) More → row.unit ≡ server
+    → IsAnswerWritten size told row → IsOutFetched told row → IsDelivered told row → IsCopied More row
+copied_more size told More server row more own written out inn = record {
+  answer = written_more size told More row by written;
   out = out_more (told_to told row.unit) More by row out;
   inn = in_more (told_to told row.unit) More by row inn;
 }
@@ -117,9 +117,9 @@ pub all_explained_more : (Hears More : Hearing) → Includes Hears More → (uni
 all_explained_more Hears More more unit taken lines = All-weaker (IsExplained Hears unit taken) (IsExplained More unit taken) (explained_more Hears More more unit taken) lines
 
 -- each row of a history
-pub written_each : (told : Told → Bool) (rows : List Served) → AreWritten told rows → All (IsAnswerWritten told) rows
-written_each told [] is = All-nil (IsAnswerWritten told)
-written_each told (row ∷ rows) is = All-cons (IsAnswerWritten told) row rows is.0 (written_each told rows is.1)
+pub written_each : (size : ℕ) (told : Told → Bool) (rows : List Served) → AreWritten size told rows → All (IsAnswerWritten size told) rows
+written_each size told [] is = All-nil (IsAnswerWritten size told)
+written_each size told (row ∷ rows) is = All-cons (IsAnswerWritten size told) row rows is.0 (written_each size told rows is.1)
 
 -- COPIES OF A UNIT -------------------------------------------------------------------------------
 

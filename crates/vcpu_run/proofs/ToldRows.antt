@@ -80,9 +80,9 @@ not_loaded current pending (stages.Answer outcome) none is = refl
 not_loaded current pending (stages.Entry outcome) none is = refl
 
 -- each row of the unit, by its place
-each_copied : (told : Told → Bool) (More : Hearing) (server : UnitId) (rows : List Served) → Includes (told_to told server) More → All (IsAnswerWritten told) rows
+each_copied : (size : ℕ) (told : Told → Bool) (More : Hearing) (server : UnitId) (rows : List Served) → Includes (told_to told server) More → All (IsAnswerWritten size told) rows
     → ((place : ℕ) (row : Served) → slice_get rows place ≡ Some row → row.unit ≡ server → IsCopied More row) → All (λ row. row.unit ≡ server → IsCopied More row) rows
-each_copied told More server rows more written each k d less own = each k (slice_index_or rows k d) (slice_get-get_or rows k d less) own
+each_copied size told More server rows more written each k d less own = each k (slice_index_or rows k d) (slice_get-get_or rows k d less) own
 
 -- the lines of the unit
 explained_of : (told : Told → Bool) (unit : UnitId) (taken : List PipeRow) (u : Unit) (grants : List Grant) (pair : Pair) → (side_of pair.link true).queue.taken ≡ taken
@@ -106,8 +106,8 @@ shown_by : (told : Told → Bool) (partitions : List Partition) (trace : Trace) 
 shown_by told partitions trace server client size partition servers records copies u pair judged there none name own kept rows lines taken shows numbered all is = record {
   copied = record {
     each = subst (λ (history : List Served). All (λ row. row.unit ≡ server → IsCopied (shown_to partitions trace server client) row) history) rows
-        (each_copied told (shown_to partitions trace server client) server records.history.items shows written
-        (λ place row found mine. copied_more told (shown_to partitions trace server client) server row shows mine (at_place written place row found)
+        (each_copied size told (shown_to partitions trace server client) server records.history.items shows written
+        (λ place row found mine. copied_more size told (shown_to partitions trace server client) server row shows mine (at_place written place row found)
         (fetched_of_rows told servers server.unit (known_of pair.own) records u there cargo place row found (mine ∙ id))
         (delivered_at_rest told servers server.unit (known_of pair.own) records u there idle cargo place row found (mine ∙ id))));
     runs = runs_heard (told_to told server) (shown_to partitions trace server client) shows (own_rows server trace.serves) 0 (length (data_shown trace server))
@@ -133,12 +133,12 @@ shown_by told partitions trace server client size partition servers records copi
     idle : is_loaded u.service.stage ≡ false
     idle = not_loaded u.logins.current u.pending.items u.service.stage none kept.stage
 
-    written : All (IsAnswerWritten told) records.history.items
-    written = written_each told records.history.items all.written
+    written : All (IsAnswerWritten size told) records.history.items
+    written = written_each size told records.history.items all.written
 
-    at_place : All (IsAnswerWritten told) records.history.items → (place : ℕ) (row : Served) → slice_get records.history.items place ≡ Some row → IsAnswerWritten told row
+    at_place : All (IsAnswerWritten size told) records.history.items → (place : ℕ) (row : Served) → slice_get records.history.items place ≡ Some row → IsAnswerWritten size told row
     at_place each place row found =
-        subst (IsAnswerWritten told) (some_is (slice_index_or records.history.items place row) row (sym (slice_get-get_or records.history.items place row within) ∙ found)) (each place row within)
+        subst (IsAnswerWritten size told) (some_is (slice_index_or records.history.items place row) row (sym (slice_get-get_or records.history.items place row within) ∙ found)) (each place row within)
       where
         within : place < length records.history.items
         within = slice_get_within records.history.items place row found

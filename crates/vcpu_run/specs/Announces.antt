@@ -34,9 +34,9 @@ HaveEvents rows = All (λ row. first_byte row.entry ≡ 0xFF) rows
 abbrev pub KeepsEvent : Option Entry → Type 0
 KeepsEvent kept = (event : Entry) → kept ≡ Some event → first_byte event ≡ 0xFF
 
--- More was put behind what was put before. While the partner's queue is registered an event that was kept is kept or was put,
--- and where the own queue was freed an event tells of it, registered again or not; where it is not registered, and none tells of it, events alone were put. Each
--- record of a drop is there still.
+-- More was put behind what was put before. While the partner's queue is registered an event that was kept is kept or was put, and where the
+-- own queue was freed an event tells of it, registered again or not; where it is not registered, and none tells of it, events alone were
+-- put. Each record of a drop is there still.
 pub record Announces (old new : EndState) : Type 0 where
   pub rows : List PipeRow
   pub sent : new.sent ≡ old.sent ++ rows

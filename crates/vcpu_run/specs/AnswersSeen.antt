@@ -14,8 +14,8 @@ use Rattle.vscsi_client.specs.declared.TheConstants.{SLOTS}
 abbrev pub fronts_of : (ℕ → Option (List StrokeValue)) → (page : ℕ) → Option (List StrokeValue) → Type 0
 fronts_of strokes page front = IsFront front (strokes page)
 
--- The response that an answer spells was read in one of the 200 slots with which the region begins: its bytes are what the pages gave, each with a front of its
--- strokes.
+-- The response that an answer spells was read in one of the 200 slots with which the region begins: its bytes are what the pages gave, each
+-- with a front of its strokes.
 pub record IsResponseRead (front_at : (page : ℕ) → Option (List StrokeValue) → Type 0) (row : AnswerRow) : Type 0 where
   pub response : Response
   pub canonical : Canon row.answer (units.Rsp response)

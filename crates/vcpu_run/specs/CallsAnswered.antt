@@ -32,8 +32,8 @@ use Rattle.vcpu_run.specs.LinesShow.{IsPutBy, seen_at}
 use Rattle.vcpu_run.specs.RegionThen.{region_then}
 
 -- What there is of a unit that raw calls name: of a client and of a LAN unit how many pages its window has, the values of its window's
--- entries and those that were put among them, its region, and whether something of the window is held; of a client what was put into its server unit's queue, too. Of any other
--- unit nothing is said.
+-- entries and those that were put among them, its region, and whether something of the window is held; of a client what was put into its
+-- server unit's queue, too. Of any other unit nothing is said.
 pub record UnitSeen : Type 1 where
   pub pages : Option ℕ
   pub value_at : (entry value : ℕ) → Type 0
@@ -94,9 +94,10 @@ port_then number lan unit = record {
   entry_put = λ entry. ⊤;
 }
 
--- Whether a call is taken, where its arguments alone decide that it is Parameter: a copy never is, an entry is sent for a client and with
--- a first byte of 0x80 or more, and a translation entry of a client or a LAN unit is read where its window has it, and put where its window
--- takes the value, or each of as many entries takes it, of which it names 512 at most; a list of values is never taken that does not lie in the region.
+-- Whether a call is taken, where its arguments alone decide that it is Parameter: a copy never is, an entry is sent for a client and with a
+-- first byte of 0x80 or more, and a translation entry of a client or a LAN unit is read where its window has it, and put where its window
+-- takes the value, or each of as many entries takes it, of which it names 512 at most; a list of values is never taken that does not lie in
+-- the region.
 abbrev pub is_taken : Hcall → (pages : Option ℕ) → List ℕ → Option Bool
 is_taken rows.CopyRdma pages args = Some false
 is_taken rows.SendCrq None args = Some false
@@ -114,7 +115,8 @@ pub record IsListRead (region : RegionSeen) (list count : ℕ) (values : List �
   pub spelled : AreValuesOf bytes values
   pub read : count ≢ 0 → AreRead region list bytes
 
--- The values of a list that was read are among those that were put into the entries from an address on, one each, and a window of so many pages takes each of them.
+-- The values of a list that was read are among those that were put into the entries from an address on, one each, and a window of so many
+-- pages takes each of them.
 pub record IsListPut (seen : UnitSeen) (pages address list count : ℕ) : Type 0 where
   pub values : List ℕ
   pub read : IsListRead seen.region list count values
@@ -127,8 +129,8 @@ pub record IsListUntaken (region : RegionSeen) (pages address list count : ℕ) 
   pub read : IsListRead region list count values
   pub refused : takes_all pages address values ≡ false
 
--- what is there once a call was Success and returned this value: the value is one of its entry, or was put into it, or into each entry that it names, or
--- the entry was put into the queue, or a list that was read was put
+-- what is there once a call was Success and returned this value: the value is one of its entry, or was put into it, or into each entry that
+-- it names, or the entry was put into the queue, or a list that was read was put
 abbrev pub IsDone : UnitSeen → Hcall → List ℕ → (value : ℕ) → Type 0
 IsDone seen rows.GetTce (address ∷ []) value = seen.value_at (address / 4096) value
 IsDone seen rows.PutTce (address ∷ put ∷ []) value = seen.put_at (address / 4096) put

@@ -30,9 +30,9 @@ kind_planned (units.Lan mac pages slots) = kinds.Lan
 abbrev pub place_in : List Partition → ℕ → Place
 place_in partitions p = record { partition = p; kind = λ unit. option_map kind_planned (unit_at partitions (unit_of p unit)) }
 
--- what a trace shows of a unit: of a client and of a LAN unit its window's pages by the plan, the values of its window's entries and those that were put among them, and its
--- region as it was when the line of this number ended; of a client its server unit's queue, too. Nothing of a window is held when a line
--- makes a call.
+-- what a trace shows of a unit: of a client and of a LAN unit its window's pages by the plan, the values of its window's entries and those
+-- that were put among them, and its region as it was when the line of this number ended; of a client its server unit's queue, too. Nothing
+-- of a window is held when a line makes a call.
 abbrev pub unit_shown : Trace → (number : ℕ) → UnitId → Option UnitPlan → UnitSeen
 unit_shown trace number unit (Some (units.Client server pages queue)) = record {
   pages = Some pages;

@@ -1,11 +1,12 @@
 -- What the turns of a run leave of the server's disk, by what its units were told: each row has its cause in what the trace shows
 -- (SRP, "SRP_RSP response").
-use Rattle.std.specs.Prelude.{ℕ, Bool, List, Option, IfSome}
+use Rattle.std.specs.Prelude.{◌≡◌, ◌⊎◌, ℕ, All, Bool, List, [], Option, IfSome}
 use Rattle.vio_num.specs.declared.history.Served.{Served}
 use Rattle.vio_num.specs.declared.names.UnitId.{UnitId}
 use Rattle.rdma_copy.specs.declared.copy.CopyRecord.{CopyRecord}
 use Rattle.block_server.specs.Causes.{Includes, Told, told_to}
 use Rattle.block_server.specs.DiskLaw.{KeepsDiskBy, ServeBy}
+use Rattle.block_server.specs.Formed.{IsFormed}
 use Rattle.boot_text.specs.Sound.{IsClientOf, IsServer}
 use Rattle.boot_text.specs.declared.plan.Partition.{Partition}
 use Rattle.vio_trace.specs.declared.rows.Trace.{Trace}
@@ -46,3 +47,9 @@ pub record AreCaused (partitions : List Partition) (trace : Trace) (before after
 -- where the image tells them
 abbrev pub LeadsCaused : List Partition → Trace → (before after : Option (List (List ℕ))) → Type 0
 LeadsCaused partitions trace before after = IfSome before (λ first. IfSome after (λ last. AreCaused partitions trace first last))
+
+-- By news that the trace shows, each of its rows that is answered is in form, on a disk of so many blocks, whatever the image tells of them.
+pub record RowsAreInForm (partitions : List Partition) (trace : Trace) (size : ℕ) : Type 0 where
+  pub told : Told → Bool
+  pub only : TellsShown partitions trace told
+  pub formed : All (λ row. (row.answer ≡ []) ⊎ IsFormed size told row) trace.serves

@@ -55,8 +55,8 @@ abbrev pub PairLogs : List Line → List LogRow → (at : ℕ) → UnitId → Pa
 PairLogs lines rows at unit pair = (page : ℕ) (stroke : StrokeValue) → IsOn stroke (strokes_at pair.window.pages page) → stroke.name.who ≡ unit
     → IsLogged unit lines rows stroke.name.mark ⊎ IsCurrent unit lines at stroke.name.mark
 
--- So is it of the client of a pair, which keeps what it noted of the data of its commands, and where they lie; and each of its lines that has a record
--- says what was so of its region as it ended, with what it read there.
+-- So is it of the client of a pair, which keeps what it noted of the data of its commands, and where they lie; and each of its lines that
+-- has a record says what was so of its region as it ended, with what it read there.
 pub record PairRecords (copies : List CopyRow) (lines : List Line) (rows : List LogRow) (at : ℕ) (unit : UnitId) (pair : Pair) : Type 0 where
   pub logged : PairLogs lines rows at unit pair
   pub noted : PairNoted pair

@@ -34,7 +34,7 @@ TellsPairs told copies pairs = (k : ℕ) (pair : Pair) → slice_get pairs k ≡
 -- By what was told, the units of a server are in order, and each row's answer was written over its request.
 pub record AllGoBy (told : Told → Bool) (size partition : ℕ) (units : List Unit) (records : Records) : Type 0 where
   pub order : AreInOrder told size partition units records
-  pub written : AreWritten told records.history.items
+  pub written : AreWritten size told records.history.items
 
 -- By that, server unit k has its data in hand, and its rows have their runs among these copies; its lines are explained, the answers to
 -- requests to log in that were put into its client's queue are those of its lines, or rejections, each request's once and in their order, and

@@ -51,10 +51,13 @@ pub mod News
 pub mod NotedOn
 pub mod Numbered
 pub mod OnDisk
+pub mod PairServed
 pub mod Pairs
 pub mod PlainBorne
 pub mod PlainClients
+pub mod PlainNoted
 pub mod PlainPairs
+pub mod PlainRejected
 pub mod PlainRows
 pub mod PlainRuns
 pub mod PlainScripts

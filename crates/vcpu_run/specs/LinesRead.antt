@@ -41,8 +41,8 @@ AskedOf = (tag : ℕ) → DataRange → Type 0
 abbrev pub cut_by : Response → DataRange → DataRange
 cut_by response whole = record { at = whole.at; len = transferred whole.len (said_by response) }
 
--- A response of this tag was read by then, as fronts of these strokes; and where a command was sent under the tag, the range is where its data were to lie,
--- cut to what this response says was transferred.
+-- A response of this tag was read by then, as fronts of these strokes; and where a command was sent under the tag, the range is where its
+-- data were to lie, cut to what this response says was transferred.
 pub record IsAnsweredIn (strokes : ℕ → Option (List StrokeValue)) (asked : AskedOf) (tag : ℕ) (range : DataRange) : Type 0 where
   pub row : AnswerRow
   pub tag_is : row.tag ≡ tag

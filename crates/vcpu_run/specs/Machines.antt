@@ -91,7 +91,8 @@ pub record Stays (old new : Pair) : Type 0 where
 abbrev pub KeepsEntries : (old new : Pair) → Type 0
 KeepsEntries old new = (entry : ℕ) → Begins ((known_of old.window).values entry) ((known_of new.window).values entry)
 
--- the same of all pairs, what there was at each is there still, and each entry of its client's window has the values that it had, and others behind them
+-- the same of all pairs, what there was at each is there still, and each entry of its client's window has the values that it had, and
+-- others behind them
 pub record AllStay (old new : List Pair) : Type 0 where
   pub count : length new ≡ length old
   pub each : (k : ℕ) (pair : Pair) → slice_get old k ≡ Some pair → IsSomeAnd (slice_get new k) (Stays pair)

@@ -1,14 +1,20 @@
 -- Plain clients do exactly what their script says: which clients are plain, and what the trace of a run on one thread says of them.
-use Rattle.std.specs.Prelude.{◌≡◌, ◌≢◌, ◌≤◌, ℕ, ◌==◌, ◌&&◌, nat_le, Bool, true, false, List, [], ◌∷◌, All, filter, length, take, IfSome, ⊤, ◌*◌, ◌||◌}
+use Rattle.std.specs.Prelude.{◌≡◌, ◌≢◌, ◌≤◌, ℕ, ◌==◌, ◌&&◌, nat_le, Bool, true, false, List, [], ◌∷◌, All, filter, length, IfSome, ⊤, ◌*◌, ◌||◌, map, Option, Some}
 use Rattle.std.specs.List.{AllPairs, flat_map, list_all, sum, Contains}
 use Rattle.vio_num.specs.declared.TheConstants.{PAGE_BYTES}
+use Rattle.vio_num.specs.Entry.{is_srp_entry, iu_length}
+use Rattle.vio_num.specs.declared.entry.Entry.{Entry}
 use Rattle.vio_num.specs.declared.history.Grant.{Grant}
 use Rattle.vio_num.specs.declared.history.Grant.TheVariants.{Granted, Lapsed}
 use Rattle.vio_num.specs.declared.history.Lapse.{Lapse}
 use Rattle.vio_num.specs.declared.history.Lapse.TheVariants as lapses
 use Rattle.vio_num.specs.declared.history.Served.{Served}
 use Rattle.vio_num.specs.declared.names.UnitId.{UnitId}
-use Rattle.srp_iu.specs.Layout.{field}
+use Rattle.srp_iu.specs.Grammar.{Canon}
+use Rattle.srp_iu.specs.Layout.{IsBytes, field}
+use Rattle.srp_iu.specs.declared.response.Rsp.{Rsp as Response}
+use Rattle.srp_iu.specs.declared.unit.Iu.TheVariants as units
+use Rattle.block_server.specs.Entries.{is_response}
 use Rattle.block_server.specs.Makers.{same_unit}
 use Rattle.block_server.specs.Receipts.{unit_of}
 use Rattle.boot_text.specs.Sound.{IsClientOf}
@@ -18,14 +24,19 @@ use Rattle.boot_text.specs.declared.verb.Verb.{Verb}
 use Rattle.boot_text.specs.declared.verb.Verb.TheVariants as verbs
 use Rattle.vio_trace.specs.declared.outcome.Outcome.{Outcome}
 use Rattle.vio_trace.specs.declared.outcome.Outcome.TheVariants as outcomes
+use Rattle.vio_trace.specs.declared.rows.AnswerRow.{AnswerRow}
 use Rattle.vio_trace.specs.declared.rows.Trace.{Trace}
 use Rattle.vscsi_client.specs.declared.TheConstants.{DATA_START}
+use Rattle.vcpu_run.specs.AnswersTaken.{answers_to}
 use Rattle.vcpu_run.specs.Credited.{Ended, ended_by, grants}
 use Rattle.vcpu_run.specs.DataRead.{given_by}
+use Rattle.vcpu_run.specs.Intake.{entries_taken}
+use Rattle.page_slots.specs.Stroke.{StrokeValue}
+use Rattle.vcpu_run.specs.PlainRejected.{TellsOf}
 use Rattle.vcpu_run.specs.PortWords.{HasNoCall}
 use Rattle.vcpu_run.specs.Replay.{IsReplayed, Range, any_share, before_lines, range, table_range}
 use Rattle.vcpu_run.specs.Settled.{script_of}
-use Rattle.vcpu_run.specs.Shown.{pages_at, records_of}
+use Rattle.vcpu_run.specs.Shown.{pages_at, records_of, stroke_value, strokes_on}
 
 -- the table of a line's command
 abbrev pub tables_of : Verb → List Range
@@ -92,9 +103,9 @@ grants_login (Lapsed unit session login cause outstanding granted) = false
 abbrev pub grants_of : UnitId → List Grant → ℕ
 grants_of unit lines = length (filter (λ line. same_unit (unit_of line) unit && grants_login line) lines)
 
--- what a record says of data-in: how many of the first bytes, of all that there are, and their sum
+-- what a record says of data-in: how many bytes they are, and their sum
 abbrev pub SumsUp : (inn : List ℕ) → Outcome → Type 0
-SumsUp inn (outcomes.Data len total) = (len ≤ length inn) × (total ≡ sum (take len inn))
+SumsUp inn (outcomes.Data len total) = (len ≡ length inn) × (total ≡ sum inn)
 SumsUp inn outcome = ⊤
 
 -- A row of the server unit has this tag, and what is said of data is so of its data-in.
@@ -115,10 +126,32 @@ tells_data outcome = false
 abbrev pub IsDataOfRow : (rows : List Served) → (server : UnitId) → Ended → Type 0
 IsDataOfRow rows server e = IfSome (given_by e.verb) (λ tag. tells_data e.outcome ≡ true → HasRowOf rows server tag e.outcome)
 
--- A client's records are those of the replay of its lines, and say no more often that a login was granted than the lines on its server unit's
--- logins do; of that unit each login ends by its client alone, and no two rows have one tag. (That no line of it ends as unanswered follows: the
--- replay of a login says otherwise.) And of what its lines say of the data of commands each tag is that of such a row, and the sum that of the first of
--- its data-in.
+-- An answer that a client noted is that of a row of the server unit, which has its tag: both are the canonical bytes of one response, so they are
+-- the same bytes. (Of numbers above 255, which no trace has, there would be more.)
+pub record HasAnswerRow (rows : List Served) (server : UnitId) (noted : AnswerRow) : Type 0 where
+  pub row : Served
+  pub there : Contains rows row
+  pub of_unit : row.unit ≡ server
+  pub tag_is : field 8 8 row.iu ≡ noted.tag
+  pub response : Response
+  pub row_says : Canon row.answer (units.Rsp response)
+  pub answer_says : Canon noted.answer (units.Rsp response)
+  pub answer_is : IsBytes row.answer → IsBytes noted.answer → row.answer ≡ noted.answer
+
+-- An entry with an information unit that bears the tag of one of these answers has its length, which is that of a response: 36, 40 or 54.
+abbrev pub FitsAnswers : List AnswerRow → Entry → Type 0
+FitsAnswers answers entry = is_srp_entry entry ≡ true → (noted : AnswerRow) → Contains answers noted → noted.tag ≡ entry.low
+    → (iu_length entry ≡ length noted.answer) × (is_response entry ≡ true)
+
+-- the strokes that a trace shows on the pages of a unit's region
+abbrev pub strokes_of : Trace → UnitId → (page : ℕ) → Option (List StrokeValue)
+strokes_of trace unit page = Some (map stroke_value (strokes_on trace unit page))
+
+-- A client's records are those of the replay of its lines, and say no more often that a login was granted than the lines on its server
+-- unit's logins do; of that unit each login ends by its client alone, and no two rows have one tag. (That no line of it ends as unanswered
+-- follows: the replay of a login says otherwise.) And of what its lines say of the data of commands each tag is that of such a row, and the
+-- length and the sum those of its data-in; and each answer that it took is that of such a row, and as long as the entry says that it took
+-- with its tag. And where one says that a login was rejected, the server unit laid the rejection in the client's region.
 pub record IsAsScripted (grant : ℕ) (partitions : List Partition) (trace : Trace) (server client : UnitId) : Type 0 where
   pub records : IsReplayed grant (pages_at partitions client) before_lines
       (ended_by client.unit (script_of partitions client.partition) (records_of trace client.partition))
@@ -126,6 +159,9 @@ pub record IsAsScripted (grant : ℕ) (partitions : List Partition) (trace : Tra
   pub logins : All (λ grant. same_unit (unit_of grant) server ≡ true → ends_by_client grant ≡ true) trace.grants
   pub tags : AllPairs HaveOtherTags (filter (λ row. same_unit row.unit server) trace.serves)
   pub reads : (e : Ended) → Contains (ended_by client.unit (script_of partitions client.partition) (records_of trace client.partition)) e → IsDataOfRow trace.serves server e
+  pub answers : All (HasAnswerRow trace.serves server) (answers_to trace client)
+  pub entries : All (λ row. FitsAnswers (answers_to trace client) row.entry) (entries_taken trace client)
+  pub rejected : All (TellsOf server (strokes_of trace client)) (ended_by client.unit (script_of partitions client.partition) (records_of trace client.partition))
 
 -- Each plain client of the plan's partitions is as scripted, where a login grants so many requests.
 abbrev pub PlainClientsAreScripted : (grant : ℕ) → List Partition → Trace → Type 0

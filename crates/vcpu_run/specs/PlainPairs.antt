@@ -14,11 +14,14 @@ use Rattle.block_server.specs.declared.unit.Unit.{Unit}
 use Rattle.vscsi_client.specs.State.{new_client}
 use Rattle.vcpu_run.specs.declared.driver.Driver.{Driver}
 use Rattle.vcpu_run.specs.declared.pair.Pair.{Pair}
+use Rattle.vcpu_run.specs.Credited.{Ended}
 use Rattle.vcpu_run.specs.Machines.{server_id}
 use Rattle.vcpu_run.specs.PlainBorne.{AreBorne, rows_by}
-use Rattle.vcpu_run.specs.PlainClients.{ends_by_client, grants_of}
-use Rattle.vcpu_run.specs.PlainRows.{TagsKept, tags_by, AnswersKept}
+use Rattle.vcpu_run.specs.PlainClients.{ends_by_client, granted_in, grants_of}
+use Rattle.vcpu_run.specs.PlainRows.{TagsKept, tags_by, AnswersKept, EntriesKept}
 use Rattle.vcpu_run.specs.PlainTalk.{AreEnds, Between, IsOwnWindow, TalksPlainly, owes}
+use Rattle.vcpu_run.specs.PlainNoted.{AreAnswers, AreAskedFor, IsLaidAnswer}
+use Rattle.vcpu_run.specs.PlainRejected.{TellsOf}
 
 -- a server unit, its client's driver and what lies between them
 abbrev pub between_of : Unit → Driver → Pair → Between
@@ -44,24 +47,32 @@ abbrev pub EndByClient : UnitId → List Grant → Type 0
 EndByClient unit lines = All (λ line. same_unit (unit_of line) unit ≡ true → ends_by_client line ≡ true) lines
 
 -- Server unit k and the client of its pair talk plainly, these words are to come, its logins end by the client alone, and no two of its
--- rows have one tag, nor will have with those that are pending once the words are heard. The client was told of so many logins that were
--- granted: with the one that it is owed there are no more than the lines say. What was put into the client's queue as an answer to a command with
--- data-in has a row; and what the server unit laid behind the slots of the client's window bears data-in of its rows.
-pub record IsPlainPair (granted told home : ℕ) (books : ServerBooks) (k : ℕ) (words : List Word) (pair : Pair) : Type 0 where
+-- rows have one tag, nor will have with those that are pending once the words are heard. These lines of the client ended: with the one that
+-- it is owed they say of no more logins that they were granted than the lines do; and what they say was rejected, the unit rejected. What
+-- was put into the client's queue as an answer to a command with data-in has a row; and what the server unit laid behind the slots of the
+-- client's window bears data-in of its rows. What it laid in the slots answers rows, or logins; the rows ask for as much as the client's
+-- commands; and what the client noted was laid there. An entry that was put as an answer says how long the answer of the row of its tag is.
+pub record IsPlainPair (granted : ℕ) (told : List Ended) (home : ℕ) (books : ServerBooks) (k : ℕ) (words : List Word) (pair : Pair) : Type 0 where
   pub unit : Unit
   pub there : slice_get books.units k ≡ Some unit
   pub id : unit.id ≡ server_id home k
   pub driver : Driver
   pub driver_is : pair.driver ≡ Some driver
   pub talks : TalksPlainly granted (between_of unit driver pair) words
-  pub owed : told + owes (between_of unit driver pair) words ≤ grants_of (server_id home k) books.lines
+  pub owed : granted_in told + owes (between_of unit driver pair) words ≤ grants_of (server_id home k) books.lines
+  pub laid : All (TellsOf unit.id (known_of pair.window).strokes) told
   pub lines : EndByClient (server_id home k) books.lines
   pub tags : (talk : Talk) → HearsAll (talk_of unit) (length (taken_now (end_of [] pair.link true))) words talk
       → TagsKept (tags_by (server_id home k) books.rows) (length driver.client.rows) talk.pending
   pub answers : (talk : Talk) → HearsAll (talk_of unit) (length (taken_now (end_of [] pair.link true))) words talk
       → AnswersKept (tags_by (server_id home k) books.rows) driver.client (end_of [] pair.link true).sent talk.pending
+  pub entries : (talk : Talk) → HearsAll (talk_of unit) (length (taken_now (end_of [] pair.link true))) words talk
+      → EntriesKept (rows_by (server_id home k) books.rows) (end_of [] pair.link true).sent talk.pending
   pub apart : pair.window.unit ≢ server_id home k
   pub borne : AreBorne (rows_by (server_id home k) books.rows) (server_id home k) driver.client.rows (known_of pair.window).strokes
+  pub answered : AreAnswers (rows_by (server_id home k) books.rows) pair.window.unit (known_of pair.window).strokes
+  pub sized : AreAskedFor (rows_by (server_id home k) books.rows) driver.client.rows
+  pub noted : All (IsLaidAnswer pair.window.unit (known_of pair.window).strokes) driver.answers.items
 
 -- Before the first turn: neither queue is registered, the client has done nothing, and the server unit is as it was made, to grant so many
 -- requests; the queues have room; and the window is as it was opened.
@@ -77,19 +88,23 @@ pub record IsNewBetween (granted : ℕ) (at : Between) : Type 0 where
   pub own_slots : 256 ≤ at.own.place.own_slots
   pub usable : IsOwnWindow at.window
 
-pub record IsNewPair (granted told home : ℕ) (books : ServerBooks) (k : ℕ) (pair : Pair) : Type 0 where
+pub record IsNewPair (granted : ℕ) (told : List Ended) (home : ℕ) (books : ServerBooks) (k : ℕ) (pair : Pair) : Type 0 where
   pub unit : Unit
   pub there : slice_get books.units k ≡ Some unit
   pub id : unit.id ≡ server_id home k
   pub driver : Driver
   pub driver_is : pair.driver ≡ Some driver
   pub new : IsNewBetween granted (between_of unit driver pair)
-  pub owed : told ≤ grants_of (server_id home k) books.lines
+  pub owed : granted_in told ≤ grants_of (server_id home k) books.lines
+  pub laid : All (TellsOf unit.id (known_of pair.window).strokes) told
   pub lines : EndByClient (server_id home k) books.lines
   pub tags : tags_by (server_id home k) books.rows ≡ []
   pub sent : (end_of [] pair.link true).sent ≡ []
   pub apart : pair.window.unit ≢ server_id home k
   pub borne : AreBorne (rows_by (server_id home k) books.rows) (server_id home k) driver.client.rows (known_of pair.window).strokes
+  pub answered : AreAnswers (rows_by (server_id home k) books.rows) pair.window.unit (known_of pair.window).strokes
+  pub sized : AreAskedFor (rows_by (server_id home k) books.rows) driver.client.rows
+  pub noted : All (IsLaidAnswer pair.window.unit (known_of pair.window).strokes) driver.answers.items
 
 -- no stroke lies on these pages
 abbrev pub AreBlank : (strokes : ℕ → Option (List StrokeValue)) → Type 0
@@ -100,6 +115,7 @@ AreBlank strokes = (page : ℕ) (list : List StrokeValue) → strokes page ≡ S
 pub record IsOpened (pair : Pair) (driver : Driver) : Type 0 where
   pub server : UnitId
   pub client : driver.client ≡ new_client driver.unit server
+  pub answers : driver.answers.items ≡ []
   pub registered : (side_of pair.link false).registered ≡ false
   pub kept : (side_of pair.link false).kept ≡ None
   pub server_registered : (side_of pair.link true).registered ≡ false
@@ -120,12 +136,17 @@ abbrev pub OpenPlainly : List Pair → Type 0
 OpenPlainly pairs = (k : ℕ) (pair : Pair) → slice_get pairs k ≡ Some pair → OpensPlainly pair
 
 -- Such a pair before its server unit's turn, which may be the first.
-abbrev pub IsReadyPair : (granted told home : ℕ) → ServerBooks → (k : ℕ) → Pair → Type 0
+abbrev pub IsReadyPair : (granted : ℕ) (told : List Ended) (home : ℕ) → ServerBooks → (k : ℕ) → Pair → Type 0
 IsReadyPair granted told home books k pair = ((words : List Word) × IsPlainPair granted told home books k words pair) ⊎ IsNewPair granted told home books k pair
+
+-- Where the client's queue is not registered, no stroke is laid in its window.
+abbrev pub LeavesAway : (old new : Pair) → Type 0
+LeavesAway old new = (side_of old.link false).registered ≡ false
+    → ((known_of new.window).place ≡ (known_of old.window).place) × ((page : ℕ) → (known_of new.window).strokes page ≡ (known_of old.window).strokes page)
 
 -- What a turn of server unit k leaves of its pair: if it was such a pair, it is one, and nothing is to come.
 abbrev pub ServesPlainly : (home : ℕ) → (books books' : ServerBooks) → (k : ℕ) → (old new : Pair) → Type 0
-ServesPlainly home books books' k old new = (granted told : ℕ) → IsReadyPair granted told home books k old → IsPlainPair granted told home books' k [] new
+ServesPlainly home books books' k old new = (granted : ℕ) (told : List Ended) → IsReadyPair granted told home books k old → IsPlainPair granted told home books' k [] new × LeavesAway old new
 
 -- Nothing is pending in unit k.
 abbrev pub IsIdleUnit : (k : ℕ) → ServerBooks → Type 0
@@ -133,7 +154,7 @@ IsIdleUnit k books = IsSomeAnd (slice_get books.units k) (λ unit. unit.pending.
 
 -- A turn in which it did nothing leaves nothing that is pending.
 abbrev pub IdlesPlainly : (home : ℕ) → (books books' : ServerBooks) → (k : ℕ) → (old : Pair) → Type 0
-IdlesPlainly home books books' k old = (granted told : ℕ) → IsReadyPair granted told home books k old → IsIdleUnit k books'
+IdlesPlainly home books books' k old = (granted : ℕ) (told : List Ended) → IsReadyPair granted told home books k old → IsIdleUnit k books'
 
 -- Turns of other server units leave unit k and its rows as they are, no line that they add says that one of its logins ended
 -- otherwise, and no line is gone that says that one was granted.
@@ -144,16 +165,20 @@ pub record SparesUnit (home : ℕ) (books books' : ServerBooks) (k : ℕ) : Type
   pub rows : rows_by (server_id home k) books'.rows ≡ rows_by (server_id home k) books.rows
 
 -- the pair of server unit k is such a pair, also before its turn
-abbrev pub IsPlainAt : (granted told home : ℕ) → ServerBooks → (k : ℕ) → List Word → List Pair → Type 0
+abbrev pub IsPlainAt : (granted : ℕ) (told : List Ended) (home : ℕ) → ServerBooks → (k : ℕ) → List Word → List Pair → Type 0
 IsPlainAt granted told home books k words pairs = IsSomeAnd (slice_get pairs k) (IsPlainPair granted told home books k words)
 
-abbrev pub IsReadyAt : (granted told home : ℕ) → ServerBooks → (k : ℕ) → List Pair → Type 0
+abbrev pub IsReadyAt : (granted : ℕ) (told : List Ended) (home : ℕ) → ServerBooks → (k : ℕ) → List Pair → Type 0
 IsReadyAt granted told home books k pairs = IsSomeAnd (slice_get pairs k) (IsReadyPair granted told home books k)
+
+-- and no stroke is laid in its client's window, if the queue is not registered
+abbrev pub LeavesAwayAt : (k : ℕ) → (old new : List Pair) → Type 0
+LeavesAwayAt k old new = (before after : Pair) → slice_get old k ≡ Some before → slice_get new k ≡ Some after → LeavesAway before after
 
 -- what turns of server units, one of which is unit k's, leave of its pair
 abbrev pub ServesPlainlyAt : (home : ℕ) → (books books' : ServerBooks) → (old new : List Pair) → (k : ℕ) → Type 0
-ServesPlainlyAt home books books' old new k = (granted told : ℕ) → IsReadyAt granted told home books k old → IsPlainAt granted told home books' k [] new
+ServesPlainlyAt home books books' old new k = (granted : ℕ) (told : List Ended) → IsReadyAt granted told home books k old → IsPlainAt granted told home books' k [] new × LeavesAwayAt k old new
 
 -- and of its unit, where they did nothing
 abbrev pub IdlesPlainlyAt : (home : ℕ) → (books books' : ServerBooks) → (old : List Pair) → (k : ℕ) → Type 0
-IdlesPlainlyAt home books books' old k = (granted told : ℕ) → IsReadyAt granted told home books k old → IsIdleUnit k books'
+IdlesPlainlyAt home books books' old k = (granted : ℕ) (told : List Ended) → IsReadyAt granted told home books k old → IsIdleUnit k books'

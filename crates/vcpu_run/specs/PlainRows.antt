@@ -6,6 +6,7 @@ use Rattle.vio_num.specs.declared.entry.Entry.{Entry}
 use Rattle.vio_num.specs.declared.history.Served.{Served}
 use Rattle.vio_num.specs.declared.names.UnitId.{UnitId}
 use Rattle.crq_ring.specs.declared.rows.PipeRow.{PipeRow}
+use Rattle.block_server.specs.Answering.{answer_entry}
 use Rattle.block_server.specs.Judged.{is_login}
 use Rattle.block_server.specs.Makers.{same_unit}
 use Rattle.block_server.specs.RowsOn.{row_tag}
@@ -42,3 +43,16 @@ pub record AnswersKept (tags : List ℕ) (s : ClientState) (sent : List PipeRow)
   pub put : All (λ row. IsAnswerFor tags s.rows row.entry) sent
   pub logins : All (λ request. is_login request.order ≡ true → is_inward (row_at s.rows request.tag) ≡ false) requests
   pub asked : AreAsked s.outgoing
+
+-- An entry that was put into the client's queue is that of the answer of each of these rows that has its tag.
+abbrev pub IsAnswerEntry : (rows : List Served) → Entry → Type 0
+IsAnswerEntry rows entry = is_srp_entry entry ≡ true → All (λ row. row_tag row ≡ entry.low → entry ≡ answer_entry row) rows
+
+-- What is asked later has a greater tag.
+abbrev pub IsBelow : List Request → Entry → Type 0
+IsBelow requests entry = is_srp_entry entry ≡ true → All (λ request. entry.low < request.tag) requests
+
+-- So is each that was put there, and before what is asked by these requests.
+pub record EntriesKept (rows : List Served) (sent : List PipeRow) (requests : List Request) : Type 0 where
+  pub put : All (λ row. IsAnswerEntry rows row.entry) sent
+  pub below : All (λ row. IsBelow requests row.entry) sent

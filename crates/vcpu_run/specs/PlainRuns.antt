@@ -1,4 +1,5 @@
--- Plain clients in a run, between the turns of a round: each talks plainly with its server unit, and stands in its script as the replay of its lines says.
+-- Plain clients in a run, between the turns of a round: each talks plainly with its server unit, and stands in its script as the replay of
+-- its lines says.
 use Rattle.std.specs.Prelude.{◌≡◌, ℕ, ◌<◌, ◌≤◌, true, false, IsSomeAnd, List, [], Some, slice_get}
 use Rattle.vcpu_run.specs.PlainPairs.{IsIdleUnit, IsPlainAt, IsReadyAt, ServerBooks}
 use Rattle.vcpu_run.specs.PlainScripts.{IsPlainSeat, NoneAwaits, StandsPlainlyAt, told_in}

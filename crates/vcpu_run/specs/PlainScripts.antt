@@ -9,6 +9,7 @@ use Rattle.vio_num.specs.declared.names.UnitId.{UnitId}
 use Rattle.crq_session.specs.PlainState.{side_of}
 use Rattle.unit_region.specs.declared.step.Step.{Step}
 use Rattle.unit_region.specs.declared.step.Step.TheVariants as steps
+use Rattle.tce_window.specs.PlainPort.{known_of}
 use Rattle.block_server.specs.Talk.{Word}
 use Rattle.block_server.specs.Talk.Word.{gone}
 use Rattle.block_server.specs.declared.unit.Unit.{Unit}
@@ -17,7 +18,7 @@ use Rattle.vcpu_run.specs.Credited.{Ended, ended_by}
 use Rattle.vcpu_run.specs.PlainClients.{IsPlainClient, granted_in}
 use Rattle.vcpu_run.specs.NotedOn.{AllKeepNoted}
 use Rattle.vcpu_run.specs.PlainPairs.{between_of}
-use Rattle.vcpu_run.specs.PlainSteps.{AsksAnew, FollowsReplay, HasCome, WasFailed, IsPlainVerb, RestsAs, SparesTables, granted_by}
+use Rattle.vcpu_run.specs.PlainSteps.{AsksAnew, FollowsReplay, HasCome, IsPlainVerb, SparesTables, StepTells, granted_by, WasFailed, RestsAs}
 use Rattle.vcpu_run.specs.PlainTalk.{Between, TalksPlainly, owes}
 use Rattle.vcpu_run.specs.Replay.{IsReplayed, Replay, after_line, before_lines, ends_as}
 use Rattle.vcpu_run.specs.Works.{fails}
@@ -27,6 +28,9 @@ use Rattle.vcpu_run.specs.declared.script.Progress.{Progress}
 use Rattle.vcpu_run.specs.declared.script.Script.{Script}
 use Rattle.vcpu_run.specs.declared.unit_seat.Seat.{Seat}
 use Rattle.vcpu_run.specs.declared.unit_seat.Seat.TheVariants as sits
+use Rattle.vcpu_run.specs.PlainNoted.{NotesLaid}
+use Rattle.vcpu_run.specs.PlainRejected.{TellsOf}
+use Rattle.vio_trace.specs.declared.rows.AnswerRow.{AnswerRow}
 
 -- AT A PAIR ---------------------------------------------------------------------------------------
 
@@ -70,23 +74,35 @@ owes_to unit words (Some driver) pair = owes (between_of unit driver pair) words
 abbrev pub owes_at : Unit → List Word → Pair → ℕ
 owes_at unit words pair = owes_to unit words pair.driver pair
 
-pub record PairSteppedOn (granted : ℕ) (unit : Unit) (verb : Verb) (p : Progress) (now : Replay) (last owed : ℕ) (pair : Pair) (step : Step) : Type 0 where
+-- the answers that the client of a pair noted
+abbrev pub answers_in : Option Driver → List AnswerRow
+answers_in None = []
+answers_in (Some driver) = driver.answers.items
+
+-- those that it noted behind these, another unit laid in its region
+abbrev pub PairNotes : (before : List AnswerRow) → Pair → Type 0
+PairNotes before pair = NotesLaid pair.window.unit (known_of pair.window).strokes before (answers_in pair.driver)
+
+pub record PairSteppedOn (granted : ℕ) (unit : Unit) (verb : Verb) (p : Progress) (now : Replay) (last owed : ℕ) (before : List AnswerRow) (pair : Pair) (step : Step) : Type 0 where
   pub words : List Word
   pub talks : PairTalks granted unit words pair
   pub anew : PairAsks last words pair
   pub stepped : PairSteppedAs granted unit verb p now pair words step
   pub told : granted_by step + owes_at unit words pair ≤ owed
+  pub laid : StepTells verb step unit.id (known_of pair.window).strokes
+  pub noted : PairNotes before pair
 
 -- A step of a plain line at its pair goes on as the replay, where nothing is to come to the server unit.
 abbrev pub PairPlainly : Verb → (p p' : Progress) → (old new : Pair) → Result Step NoMemory → Type 0
 PairPlainly verb p p' old new result =
     IsPlainVerb verb → (granted : ℕ) (unit : Unit) (now : Replay) → SparesTables verb now → PairTalks granted unit [] old → PairIs (HasCome granted verb p now) old
-    → IfOk result (PairSteppedOn granted unit verb p' now (rows_in old.driver) (owes_at unit [] old) new)
+    → IfOk result (PairSteppedOn granted unit verb p' now (rows_in old.driver) (owes_at unit [] old) (answers_in old.driver) new)
 
 -- Behind the last line answers are taken, and nothing is asked.
 abbrev pub PairRestsPlainly : (old new : Pair) → Type 0
 PairRestsPlainly old new = (granted : ℕ) (unit : Unit) (now : Replay) → PairTalks granted unit [] old → PairIs (RestsAs granted now) old
     → PairTalks granted unit [] new × PairAsks (rows_in old.driver) [] new × (later : Replay) × PairIs (RestsAs granted later) new
+    × ((before : List AnswerRow) → PairNotes before old → PairNotes before new)
 
 -- The partition fails: the client's queue is freed, if it is registered, of which its server unit is to hear; or all is as it was. It asks
 -- for nothing.
@@ -95,15 +111,16 @@ pub record PairFailed (granted : ℕ) (unit : Unit) (words : List Word) (old new
   pub talks : PairTalks granted unit later new
   pub said : (later ≡ words) ⊎ (later ≡ gone ∷ [])
   pub rows : rows_in new.driver ≡ rows_in old.driver
+  pub answers : answers_in new.driver ≡ answers_in old.driver
   pub left : ((new ≡ old) × (later ≡ words)) ⊎ PairIs WasFailed new
 
 abbrev pub PairFailsPlainly : (old new : Pair) → Type 0
 PairFailsPlainly old new = (granted : ℕ) (unit : Unit) (words : List Word) → PairTalks granted unit words old
     → ((words ≡ []) × ((side_of old.link false).registered ≡ true)) ⊎ PairIs WasFailed old → PairFailed granted unit words old new
 
--- The client and its server unit talk on as they did.
+-- The client and its server unit talk on as they did, also where its partition failed.
 abbrev pub PairTalksOn : (old new : Pair) → Type 0
-PairTalksOn old new = (granted : ℕ) (unit : Unit) → PairTalks granted unit [] old → PairTalks granted unit [] new
+PairTalksOn old new = (granted : ℕ) (unit : Unit) → PairTalks granted unit [] old → PairTalks granted unit [] new × (PairIs WasFailed old → PairIs WasFailed new)
 
 -- the same of all pairs, and of the pair of a line's client
 abbrev pub AllRestPlainly : (old new : List Pair) → Type 0
@@ -160,9 +177,9 @@ pub record StartsAnew (pair : Pair) : Type 0 where
 abbrev pub StandsPlainlyAt : (granted u k : ℕ) → List Pair → Script → Type 0
 StandsPlainlyAt granted u k pairs script = IsSomeAnd (slice_get pairs k) (StandsPlainly granted u script)
 
--- how many logins the lines of a unit that ended say were granted
-abbrev pub told_in : (u : ℕ) → Script → ℕ
-told_in u script = granted_in (ended_by u script.lines.now script.logs.items)
+-- the lines of a unit that ended
+abbrev pub told_in : (u : ℕ) → Script → List Ended
+told_in u script = ended_by u script.lines.now script.logs.items
 
 -- whether a line may wait for an answer
 abbrev pub awaits : Verb → Bool
@@ -186,13 +203,17 @@ pub record IsPlainSeat (script : Script) (u k : ℕ) : Type 0 where
   pub plain : IsPlainClient u script.lines.now
 
 -- A turn of a script leaves each plain client as the replay says, where it and this server unit talk plainly and nothing is to come; a login
--- that its lines say was granted is one that it was owed, and it is owed no other. (So many were granted before.)
-pub record TurnedPlainly (granted told u k : ℕ) (unit : Unit) (old new : List Pair) (script : Script) : Type 0 where
+-- that its lines say was granted is one that it was owed, and it is owed no other; and one that they say was rejected, the server unit
+-- rejected; and what answers its client noted, another unit laid in its region. (These lines ended before.)
+pub record TurnedPlainly (granted : ℕ) (told : List Ended) (u k : ℕ) (unit : Unit) (old new : List Pair) (script : Script) : Type 0 where
   pub words : List Word
   pub talks : IsSomeAnd (slice_get new k) (PairTalks granted unit words)
   pub anew : (before after : Pair) → slice_get old k ≡ Some before → slice_get new k ≡ Some after → PairAsks (rows_in before.driver) words after
   pub owed : (before after : Pair) → slice_get old k ≡ Some before → slice_get new k ≡ Some after
-      → told_in u script + owes_at unit words after ≤ told + owes_at unit [] before
+      → granted_in (told_in u script) + owes_at unit words after ≤ granted_in told + owes_at unit [] before
+  pub laid : (before after : Pair) → slice_get old k ≡ Some before → slice_get new k ≡ Some after
+      → All (TellsOf unit.id (known_of before.window).strokes) told → All (TellsOf unit.id (known_of after.window).strokes) (told_in u script)
+  pub noted : (before after : Pair) → slice_get old k ≡ Some before → slice_get new k ≡ Some after → PairNotes (answers_in before.driver) after
   pub keeps : AllKeepNoted old new
   pub stands : StandsPlainlyAt granted u k new script
 

@@ -8,14 +8,14 @@ use Rattle.tce_window.specs.PlainPort.{known_of}
 use Rattle.unit_region.specs.declared.step.Step.{Step}
 use Rattle.unit_region.specs.declared.step.Step.TheVariants as steps
 use Rattle.vcpu_run.specs.Agreed.{OnDrivers}
-use Rattle.vcpu_run.specs.PlainSteps.{Own, StepsPlainly, own_by}
+use Rattle.vcpu_run.specs.PlainSteps.{Own, StepsPlainly, own_of}
 use Rattle.vcpu_run.specs.declared.driver.Driver.{Driver}
 use Rattle.vcpu_run.specs.declared.pair.Pair.{Pair}
 use Rattle.vcpu_run.specs.declared.script.Progress.{Progress}
 
 -- the client of a pair, its queue's end and its window
 abbrev pub own_in : Driver → Pair → Own
-own_in driver pair = own_by driver.client (end_of [] pair.link false) (known_of pair.window)
+own_in driver pair = own_of driver (end_of [] pair.link false) (known_of pair.window)
 
 -- a step of a plain line goes on as the replay at the pair
 abbrev pub DriverPlainly : Verb → (p p' : Progress) → (old new : Pair) → Result Step NoMemory → Type 0

@@ -8,7 +8,7 @@ use Rattle.vio_num.specs.declared.hypervisor.Moved.{Moved}
 use Rattle.crq_ring.specs.declared.rows.PipeRow.{PipeRow}
 use Rattle.crq_session.specs.EndState.{EndState, OnlyTakes}
 use Rattle.crq_session.specs.declared.handshake.Handshake.TheVariants.{Waiting}
-use Rattle.tce_window.specs.PortState.{PortState}
+use Rattle.tce_window.specs.PortState.{OnlyReads, PortState}
 use Rattle.block_server.specs.Talk.{Word, tag_asked}
 use Rattle.block_server.specs.Talk.Word.{asks, begins, gone}
 use Rattle.block_server.specs.declared.unit.Unit.{Unit}
@@ -23,9 +23,15 @@ use Rattle.vscsi_client.specs.declared.outgoing.Outgoing.{Outgoing}
 use Rattle.vscsi_client.specs.declared.outgoing.Span.{Span}
 use Rattle.vscsi_client.specs.declared.row.Row.{Row}
 use Rattle.vscsi_client.specs.declared.stage.Stage.TheVariants.{Idle}
+use Rattle.vio_num.specs.declared.names.UnitId.{UnitId}
+use Rattle.page_slots.specs.Stroke.{StrokeValue}
 use Rattle.vcpu_run.specs.Credited.{grants, taken_in}
 use Rattle.vcpu_run.specs.PlainClients.{keeps_own, lie_behind, written_by}
 use Rattle.vcpu_run.specs.PlainTalk.{Between, ServerStays, TalksPlainly, is_sent, owes, is_login}
+use Rattle.vcpu_run.specs.PlainNoted.{AreLaid, NotesLaid}
+use Rattle.vcpu_run.specs.PlainRejected.{TellsRejection}
+use Rattle.vcpu_run.specs.declared.driver.Driver.{Driver}
+use Rattle.vio_trace.specs.declared.rows.AnswerRow.{AnswerRow}
 use Rattle.vcpu_run.specs.Replay.{Asked as Replayed, Range, Replay, after_line, answered, any_share, ends_as, forgotten, logged_in, login_says}
 use Rattle.vcpu_run.specs.TagRows.{is_inward, row_at}
 use Rattle.vcpu_run.specs.declared.taking.Took.{Took}
@@ -72,6 +78,7 @@ pub record FollowsReplay (granted : ℕ) (now : Replay) (at : Between) : Type 0 
 -- Its partition failed: its queue is not registered, and no entry that was kept is an event or one of the initialisation. (It knows of the
 -- login and of what is outstanding as before.)
 pub record WasFailed (at : Between) : Type 0 where
+  pub laid : AreLaid at.client at.window at.client.kept
   pub registered : at.own.registered ≡ false
   pub kept : All (λ (entry : Entry). is_srp_entry entry ≡ true) at.client.kept
 
@@ -155,28 +162,44 @@ pub record AsksAnew (last : ℕ) (s : ClientState) (words : List Word) : Type 0 
   pub asked : All (IsNewWord last (length s.rows)) words
   pub logins : All (KeepsLogin s.rows) words
 
+-- so is it of a step that ends a line
+abbrev pub StepTells : Verb → Step → (who : UnitId) → (strokes : ℕ → Option (List StrokeValue)) → Type 0
+StepTells verb (steps.Ends outcome) who strokes = TellsRejection verb outcome who strokes
+StepTells verb (steps.Waits did) who strokes = ⊤
+
 -- how many logins a step ends as granted: one, or none
 abbrev pub granted_by : Step → ℕ
 granted_by (steps.Ends outcome) = if grants outcome then 1 else 0
 granted_by (steps.Waits did) = 0
 
 -- These words are to come behind the step of a client that had asked for so many things, and was owed so many logins: one of which it is told
--- is owed no more.
-pub record StepsOn (granted : ℕ) (verb : Verb) (p : Progress) (now : Replay) (last owed : ℕ) (at : Between) (step : Step) : Type 0 where
+-- is owed no more. One that it says was rejected was rejected by the server unit; and what answers it noted, another unit laid.
+pub record StepsOn (granted : ℕ) (verb : Verb) (p : Progress) (now : Replay) (last owed : ℕ) (before after : List AnswerRow) (at : Between) (step : Step) : Type 0 where
   pub words : List Word
   pub talks : TalksPlainly granted at words
   pub anew : AsksAnew last at.client words
   pub replayed : IsAsReplayed granted verb p now at words step
   pub told : granted_by step + owes at words ≤ owed
+  pub laid : StepTells verb step at.unit.id at.window.strokes
+  pub noted : NotesLaid at.window.place.unit at.window.strokes before after
 
--- a client, its queue's end and its window, without the server unit
+-- a client, the answers that it noted, its queue's end and its window, without the server unit
 pub record Own : Type 0 where
   pub client : ClientState
+  pub answers : List AnswerRow
   pub end : EndState
   pub window : PortState
 
-abbrev pub own_by : ClientState → EndState → PortState → Own
-own_by client end window = record { client = client; end = end; window = window }
+abbrev pub own_by : ClientState → List AnswerRow → EndState → PortState → Own
+own_by client answers end window = record { client = client; answers = answers; end = end; window = window }
+
+-- the same of a driver
+abbrev pub own_of : Driver → EndState → PortState → Own
+own_of driver end window = own_by driver.client driver.answers.items end window
+
+-- what was noted between these two
+abbrev pub OwnNotes : (old new : Own) → Type 0
+OwnNotes old new = NotesLaid new.window.place.unit new.window.strokes old.answers new.answers
 
 abbrev pub beside : Unit → EndState → Own → Between
 beside unit server own = record { unit = unit; server = server; client = own.client; own = own.end; window = own.window }
@@ -197,7 +220,7 @@ StepsPlainly verb p p' old new result =
     IsPlainVerb verb → (granted : ℕ) (unit : Unit) (server server' : EndState) (now : Replay) → SparesTables verb now
     → ServerStays (beside unit server old) (beside unit server' new) → TalksPlainly granted (beside unit server old) []
     → HasCome granted verb p now (beside unit server old)
-    → IfOk result (StepsOn granted verb p' now (length old.client.rows) (owes (beside unit server old) []) (beside unit server' new))
+    → IfOk result (StepsOn granted verb p' now (length old.client.rows) (owes (beside unit server old) []) old.answers new.answers (beside unit server' new))
 
 -- WHAT TAKING AN ENTRY LEAVES ---------------------------------------------------------------------
 
@@ -218,13 +241,14 @@ pub record TakesEntries (old new : EndState) : Type 0 where
 abbrev pub FailsOn : (old new : Own) → Type 0
 FailsOn old new = (granted : ℕ) (unit : Unit) (server server' : EndState) → ServerStays (beside unit server old) (beside unit server' new)
     → TalksPlainly granted (beside unit server old) [] → WasFailed (beside unit server old)
-    → TalksPlainly granted (beside unit server' new) [] × WasFailed (beside unit server' new) × (next_tag new.client ≡ next_tag old.client)
+    → TalksPlainly granted (beside unit server' new) [] × WasFailed (beside unit server' new) × (next_tag new.client ≡ next_tag old.client) × OwnNotes old new
 
 pub record TakesPlainly (took : Took) (old new : Own) : Type 0 where
   pub entries : TakesEntries old.end new.end
+  pub reads : OnlyReads false old.window new.window
   pub leaves : (granted : ℕ) (unit : Unit) (server server' : EndState) (now : Replay) → ServerStays (beside unit server old) (beside unit server' new)
       → TalksPlainly granted (beside unit server old) [] → FollowsReplay granted now (beside unit server old)
-      → TalksPlainly granted (beside unit server' new) [] × LeavesTook granted now took (beside unit server' new)
+      → TalksPlainly granted (beside unit server' new) [] × LeavesTook granted now took (beside unit server' new) × OwnNotes old new
   pub failed : FailsOn old new
 
 -- WHAT A TURN OF A LOGIN LEAVES -------------------------------------------------------------------
@@ -244,9 +268,10 @@ IsLoginReplayed granted now at words (steps.Waits did) = IsLoggingIn granted now
 abbrev pub RestsPlainly : (old new : Own) → Result Moved NoMemory → Type 0
 RestsPlainly old new result = (granted : ℕ) (unit : Unit) (server server' : EndState) (now : Replay) → ServerStays (beside unit server old) (beside unit server' new)
     → TalksPlainly granted (beside unit server old) [] → RestsAs granted now (beside unit server old)
-    → IfOk result (λ moved. TalksPlainly granted (beside unit server' new) [] × (later : Replay) × (next_tag new.client ≡ next_tag old.client) × RestsAs granted later (beside unit server' new))
+    → IfOk result (λ moved. TalksPlainly granted (beside unit server' new) [] × (later : Replay) × (next_tag new.client ≡ next_tag old.client) × RestsAs granted later (beside unit server' new) × OwnNotes old new)
 
 abbrev pub LogsInPlainly : (old new : Own) → Result Step NoMemory → Type 0
 LogsInPlainly old new result = (granted : ℕ) (unit : Unit) (server server' : EndState) (now : Replay) → ServerStays (beside unit server old) (beside unit server' new)
     → TalksPlainly granted (beside unit server old) [] → MayLogIn granted now (beside unit server old)
-    → IfOk result (λ step. (words : List Word) × TalksPlainly granted (beside unit server' new) words × AsksAnew (length old.client.rows) new.client words × IsLoginReplayed granted now (beside unit server' new) words step)
+    → IfOk result (λ step. (words : List Word) × TalksPlainly granted (beside unit server' new) words × AsksAnew (length old.client.rows) new.client words × IsLoginReplayed granted now (beside unit server' new) words step
+    × StepTells verbs.Login step unit.id new.window.strokes × (new.answers ≡ old.answers))

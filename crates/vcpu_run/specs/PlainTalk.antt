@@ -1,6 +1,6 @@
 -- What lies between a plain client and its server unit between turns: what the client asked and is not done with, where each of that is,
 -- and how far both have come.
-use Rattle.std.specs.Prelude.{get_or, ◌≡◌, ◌≢◌, ◌⊎◌, ℕ, ◌+◌, ◌*◌, ◌/◌, ◌<◌, ◌≤◌, ◌++◌, ◌&&◌, nat_le, not, All, Bool, true, false, List, [], ◌∷◌, Option, Some, None, IsSome, filter, is_some, length, map, min, slice_get, ⊤, if◌then◌else◌}
+use Rattle.std.specs.Prelude.{get_or, ◌≡◌, ◌≢◌, ◌⊎◌, ℕ, ◌+◌, ◌*◌, ◌/◌, ◌<◌, ◌≤◌, ◌++◌, ◌&&◌, nat_le, not, All, Bool, true, false, List, [], ◌∷◌, Some, None, IsSome, is_some, length, map, min, slice_get, ⊤, if◌then◌else◌}
 use Rattle.vio_num.specs.Entry.{initialization_complete, srp_entry}
 use Rattle.vio_num.specs.declared.TheConstants.{PAGE_BYTES}
 use Rattle.vio_num.specs.declared.entry.Entry.{Entry}
@@ -8,16 +8,20 @@ use Rattle.crq_session.specs.Answered.{received_now, taken_now}
 use Rattle.crq_session.specs.EndState.{EndState}
 use Rattle.crq_session.specs.declared.handshake.Handshake.TheVariants.{Down, Up, Waiting}
 use Rattle.srp_iu.specs.Grammar.{Canon, Spells}
-use Rattle.srp_desc.specs.Pieces.{named, pieces, sum_of}
+use Rattle.srp_desc.specs.Pieces.{named, pieces, sum_of, total_of}
 use Rattle.srp_desc.specs.Tables.{table_len, tables_of}
 use Rattle.srp_iu.specs.declared.buffer.Buffer.{Buffer}
 use Rattle.srp_iu.specs.declared.buffer.Buffer.TheVariants.{Absent}
 use Rattle.srp_iu.specs.declared.buffer.Desc.{Desc}
+use Rattle.srp_iu.specs.declared.command.Cmd.{Cmd}
 use Rattle.srp_iu.specs.declared.login.TheConstants.{UNABLE_TO_ESTABLISH_CHANNEL}
 use Rattle.srp_iu.specs.declared.unit.Iu.{Iu}
 use Rattle.srp_iu.specs.declared.unit.Iu.TheVariants as units
+use Rattle.page_slots.specs.Stroke.{StrokeValue}
 use Rattle.tce_window.specs.PortState.{PortState}
 use Rattle.tce_window.specs.Region.{region_byte}
+use Rattle.unit_region.specs.RegionLines.{IsOn}
+use Rattle.vio_num.specs.declared.names.UnitId.{UnitId}
 use Rattle.block_server.specs.Carried.{address_of}
 use Rattle.block_server.specs.Ends.{IsGrantable}
 use Rattle.block_server.specs.Ranges.{IsDataIn}
@@ -40,8 +44,10 @@ use Rattle.vscsi_client.specs.declared.outgoing.Outgoing.{Outgoing}
 use Rattle.vscsi_client.specs.declared.outgoing.Span.{Span}
 use Rattle.vscsi_client.specs.declared.row.Row.{Row}
 use Rattle.vscsi_client.specs.declared.stage.Stage.{Stage}
-use Rattle.vscsi_client.specs.declared.stage.Stage.TheVariants.{Idle, Sent, Written}
+use Rattle.vscsi_client.specs.declared.stage.Stage.TheVariants.{Idle, Sent}
 use Rattle.vcpu_run.specs.DataKept.{IsInwardAt}
+use Rattle.vcpu_run.specs.PlainNoted.{HasResponse}
+use Rattle.vcpu_run.specs.PlainRejected.{HasRejection}
 
 -- WHAT IS ASKED -----------------------------------------------------------------------------------
 
@@ -142,6 +148,7 @@ pub record IsPendingAs (request : Request) (ask : Ask) : Type 0 where
   pub address : request.address ≡ slot_address ask.slot
   pub tag : request.tag ≡ ask.tag
   pub order : request.order ≡ order_asked ask.iu
+  pub bytes : request.unit.items ≡ ask.bytes
 
 abbrev pub ArePending : List Request → List Ask → Type 0
 ArePending [] [] = ⊤
@@ -176,11 +183,13 @@ HaveAnswers window [] [] [] = ⊤
 HaveAnswers window (entry ∷ entries) (ask ∷ more) (answer ∷ answers) = HasAnswer window entry ask answer × HaveAnswers window entries more answers
 HaveAnswers window _ _ _ = ⊥
 
--- An answer that grants a login grants it so many requests; one that rejects it says that one is on.
-abbrev pub SaysOfLogin : (granted : ℕ) → Iu → Type 0
-SaysOfLogin granted (units.LoginRsp response) = response.delta ≡ granted
-SaysOfLogin granted (units.LoginRej rejection) = rejection.reason ≡ UNABLE_TO_ESTABLISH_CHANNEL
-SaysOfLogin granted answer = ⊤
+-- An answer that grants a login grants it so many requests; one that rejects it says that one is on, and was laid by the unit of this name; a
+-- response was laid by another unit than the region's.
+abbrev pub IsAnswerBy : (granted : ℕ) → (who : UnitId) → PortState → Iu → Type 0
+IsAnswerBy granted who window (units.LoginRsp response) = response.delta ≡ granted
+IsAnswerBy granted who window (units.LoginRej rejection) = (rejection.reason ≡ UNABLE_TO_ESTABLISH_CHANNEL) × HasRejection who rejection.reason window.strokes
+IsAnswerBy granted who window (units.Rsp response) = HasResponse window.place.unit response window.strokes
+IsAnswerBy granted who window answer = ⊤
 
 -- whether a login was granted by one of these answers, or rejected
 abbrev pub is_granted : Iu → Bool
@@ -223,9 +232,9 @@ abbrev pub AreSpared : List Ask → Type 0
 AreSpared [] = ⊤
 AreSpared (ask ∷ more) = All (λ other. meets ask.pages other.table ≡ false) more × AreSpared more
 
--- In a client's rows the data-in of what is asked lie where they lie.
+-- Where a client's rows have data-in of what is asked, they lie where they lie there, and it is a command whose buffer takes as many.
 abbrev pub StartsAt : List Row → Ask → Type 0
-StartsAt rs ask = (at len : ℕ) → IsInwardAt rs ask.tag at len → at ≡ ask.start
+StartsAt rs ask = (at len : ℕ) → IsInwardAt rs ask.tag at len → (at ≡ ask.start) × ((command : Cmd) × (ask.iu ≡ units.Cmd command) × (total_of command.inn ≡ len))
 
 -- HOW FAR BOTH HAVE COME --------------------------------------------------------------------------
 
@@ -337,7 +346,7 @@ pub record AgreeOnLogin (granted : ℕ) (at : Between) (asked : AskedParts) (ans
       → is_some at.client.granted ≡ on_behind (nat_le 1 at.unit.logins.current) (asked.pending ++ asked.coming)
   pub on : has_login asked.answered ≡ true → 1 ≤ at.unit.logins.current
   pub answer : has_login asked.answered ≡ true → is_some at.client.granted ≡ not (grants_one answers)
-  pub grant : All (SaysOfLogin granted) answers
+  pub grant : All (IsAnswerBy granted at.unit.id at.window) answers
 
 -- What the server unit's login takes is what was asked under it.
 pub record CountsAsked (unit : Unit) (pending : List Ask) : Type 0 where
@@ -453,17 +462,19 @@ pub record ServerStays (old new : Between) : Type 0 where
 
 -- WHAT STANDS IN THE SLOTS ------------------------------------------------------------------------
 
--- What stood in the slots stands there.
-abbrev pub KeepsSlots : (spared : ℕ → Type 0) → (old new : PortState) → Type 0
-KeepsSlots spared old new = (slot : ℕ) (bytes : List ℕ) → slot ≤ SLOTS → spared slot → length bytes ≡ 256
-    → StandAt old (slot_address slot) bytes → StandAt new (slot_address slot) bytes
+-- What stood in the slots stands there, and no stroke is gone; the region is the same unit's.
+pub record KeepsSlots (spared : ℕ → Type 0) (old new : PortState) : Type 0 where
+  pub slots : (slot : ℕ) (bytes : List ℕ) → slot ≤ SLOTS → spared slot → length bytes ≡ 256
+      → StandAt old (slot_address slot) bytes → StandAt new (slot_address slot) bytes
+  pub strokes : (page : ℕ) (stroke : StrokeValue) → IsOn stroke (old.strokes page) → IsOn stroke (new.strokes page)
+  pub unit : new.place.unit ≡ old.place.unit
 
 -- What is so of the data of these is so.
 abbrev pub KeepsTables : (spared : Ask → Type 0) → (old new : PortState) → Type 0
 KeepsTables spared old new = (ask : Ask) → spared ask → DataLies old ask → DataLies new ask
 
 -- The answer to what was asked, of so many bytes, stands in its slot, and says what came of it.
-pub record AnswerStands (granted : ℕ) (window : PortState) (ask : Ask) (long : ℕ) (outcome : Outcome) (answer : Iu) : Type 0 where
+pub record AnswerStands (granted : ℕ) (who : UnitId) (window : PortState) (ask : Ask) (long : ℕ) (outcome : Outcome) (answer : Iu) : Type 0 where
   pub few : long ≤ 256
   pub bytes : List ℕ
   pub stand : StandAt window (slot_address ask.slot) bytes
@@ -471,4 +482,4 @@ pub record AnswerStands (granted : ℕ) (window : PortState) (ask : Ask) (long :
   pub spelled : Spells bytes answer
   pub suits : IsAnswerTo ask.iu answer
   pub grants : is_granted answer ≡ is_grant outcome
-  pub credits : SaysOfLogin granted answer
+  pub credits : IsAnswerBy granted who window answer

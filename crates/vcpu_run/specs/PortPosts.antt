@@ -67,8 +67,8 @@ abbrev pub buffers_at : Verb → (done' : ℕ) → Step → List ℕ
 buffers_at verb done' (steps.Ends outcome) = buffers_told verb outcome
 buffers_at verb done' (steps.Waits did) = buffers_by verb done'
 
--- A step of a line took no more than the line says, ends it in its form, posted the buffers of the line that come next, gave the port no other address
--- than that of its seat or of a `mac` line, and says `range` where it is to.
+-- A step of a line took no more than the line says, ends it in its form, posted the buffers of the line that come next, gave the port no
+-- other address than that of its seat or of a `mac` line, and says `range` where it is to.
 pub record StepFits (unit : UnitId) (verb : Verb) (done done' : ℕ) (old new : LanValue) (step : Step) : Type 0 where
   pub takes : TakesNoMore verb done → StepTakes verb done' step
   pub posts : AddsBuffers unit (buffers_by verb done) (buffers_at verb done' step) old new

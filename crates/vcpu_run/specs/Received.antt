@@ -31,10 +31,10 @@ abbrev pub HasEntries : List Unit → List CopyRecord → List Grant → List Se
 HasEntries units copies grants history k pair judged =
     HasJudged units k (known_of pair.own) (known_of pair.window) (end_of [] pair.link true) copies history grants judged
 
--- Server unit k has a receipt and a fate for each entry that it took, its rows are those of its requests, it took all in sessions, and
--- each of its rows has its answer, is to have it, or is cut off; it was told where its client is gone, and takes its own queue for
--- registered exactly where it is; it put nothing before its queue's first session; and the answers of a login that goes on, and of those behind, were put into the client's
--- present session.
+-- Server unit k has a receipt and a fate for each entry that it took, its rows are those of its requests, it took all in sessions, and each
+-- of its rows has its answer, is to have it, or is cut off; it was told where its client is gone, and takes its own queue for registered
+-- exactly where it is; it put nothing before its queue's first session; and the answers of a login that goes on, and of those behind, were
+-- put into the client's present session.
 pub record IsReceived (units : List Unit) (copies : List CopyRecord) (grants : List Grant) (history : List Served) (k : ℕ) (pair : Pair) : Type 0 where
   pub judged : ∥ ((judged : List Judged) × HasEntries units copies grants history k pair judged) ∥₁
   pub begun : AreBegun (side_of pair.link true).queue.taken
@@ -48,8 +48,8 @@ pub record IsReceived (units : List Unit) (copies : List CopyRecord) (grants : L
 abbrev pub AreReceived : List Unit → List CopyRecord → List Grant → List Served → List Pair → Type 0
 AreReceived units copies grants history pairs = (k : ℕ) (pair : Pair) → slice_get pairs k ≡ Some pair → IsReceived units copies grants history k pair
 
--- No session of the server unit's queue began and nothing was taken from it, nothing was put into its client's, the client has sent and taken nothing and made no
--- event, nor did the server unit, no value was put into its window, and its region has no stroke.
+-- No session of the server unit's queue began and nothing was taken from it, nothing was put into its client's, the client has sent and
+-- taken nothing and made no event, nor did the server unit, no value was put into its window, and its region has no stroke.
 pub record IsNew (pair : Pair) : Type 0 where
   pub session : (side_of pair.link true).queue.session ≡ 0
   pub taken : (side_of pair.link true).queue.taken ≡ []

@@ -1,6 +1,8 @@
--- The law of a run, so far as it is proved: what its trace says of its queues, its copies and windows, its
--- records, the credits and the refusals that they tell of, the strokes of clients in their own regions, the answers that were sent, its LAN ports and what is told of them, how it ends, what its server units took in,
--- which of it they served, that each of that has its answer, that clients' queues handed over the answers of logins that no line cuts off, and which copies moved its answer and its data, and how its requests to log in were answered.
+-- The law of a run, so far as it is proved: what its trace says of its queues, its copies and windows, its records, the credits and the
+-- refusals that they tell of, the strokes of clients in their own regions, the answers that were sent, its LAN ports and what is told of
+-- them, how it ends, what its server units took in, which of it they served, that each of that has its answer, that clients' queues handed
+-- over the answers of logins that no line cuts off, and which copies moved its answer and its data, and how its requests to log in were
+-- answered.
 use Rattle.std.specs.Prelude.{◌≡◌, ◌⊎◌, ℕ, ◌+◌, ◌*◌, ◌<◌, ◌≤◌, List, [], ◌∷◌, All, Some, None, length, map}
 use Rattle.std.specs.List.{AllPairs}
 use Rattle.vio_num.specs.Queue.{Handed, LawfulDrop}

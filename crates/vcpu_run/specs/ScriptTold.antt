@@ -71,8 +71,9 @@ pub record IsScriptTaken (pairs : List Pair) (script : Script) : Type 0 where
   pub agrees : (line : Line) → slice_get script.lines.now script.at ≡ Some line → fails line.verb ≡ false
       → AtSeats script.seats.items pairs (λ unit pair. PairAgrees (own_of unit script) (progress_by unit script) pair)
 
--- The refusals of each client have their causes, what its lines did is there, they put what they say into its window's entries, and made no more events than resets;
--- before a line that fails no partition each client agrees with its records, and behind one that does no client's queue is registered.
+-- The refusals of each client have their causes, what its lines did is there, they put what they say into its window's entries, and made no
+-- more events than resets; before a line that fails no partition each client agrees with its records, and behind one that does no client's
+-- queue is registered.
 pub record IsScriptTold (pairs : List Pair) (script : Script) : Type 0 where
   pub law : AtSeats script.seats.items pairs (λ unit pair. HasCausesTold (length pair.window.pages) (own_of unit script))
   pub fresh : IfSome (slice_get script.lines.now script.at)

@@ -1,4 +1,5 @@
--- A run that ends is settled: no entry is left in the queue of a server unit, nor in that of a client whose partition makes no raw call and does not fail.
+-- A run that ends is settled: no entry is left in the queue of a server unit, nor in that of a client whose partition makes no raw call and
+-- does not fail.
 use Rattle.std.specs.Prelude.{◌≡◌, ℕ, List, [], ◌∷◌, Option, Some, None, ⊤, slice_get}
 use Rattle.vio_num.specs.declared.names.UnitId.{UnitId}
 use Rattle.boot_text.specs.Sound.{IsClientOf, IsServer}

@@ -27,9 +27,9 @@ use Rattle.vcpu_run.specs.Takings.{AgreesTaken, AreGiven, Gives, StepsTaken, wai
 abbrev pub PairAgrees : List Ended → Progress → Pair → Type 0
 PairAgrees own p pair = IfSome pair.driver (AgreesTaken (taken_in p) (takes_after no_takes own))
 
--- A client's records say of its answers what is so, and these stand in order among the entries that it took; each loss that they tell has an event; and
--- what they say of the data of commands is so. It is logged in only where something was put into its queue, which its server unit did in a
--- session.
+-- A client's records say of its answers what is so, and these stand in order among the entries that it took; each loss that they tell has
+-- an event; and what they say of the data of commands is so. It is logged in only where something was put into its queue, which its server
+-- unit did in a session.
 pub record IsTaken (own : List Ended) (pair : Pair) (driver : Driver) : Type 0 where
   pub said : AreTakesSaid (answered_tags driver.answers.items) no_takes own
   pub given : AreGiven driver (end_of [] pair.link false)

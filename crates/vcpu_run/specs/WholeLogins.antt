@@ -1,5 +1,5 @@
--- Whole logins: a login that no line ends for a cause but its client's own logout has its answers in its client's last session, which handed them over
--- (SRP, "SRP_RSP response").
+-- Whole logins: a login that no line ends for a cause but its client's own logout has its answers in its client's last session, which
+-- handed them over (SRP, "SRP_RSP response").
 use Rattle.std.specs.Prelude.{◌≡◌, ◌⊎◌, ◌++◌, ℕ, ◌≤◌, List, [], ◌∷◌, Some, filter}
 use Rattle.std.specs.List.{slice_get}
 use Rattle.vio_num.specs.declared.entry.Entry.{Entry}
@@ -30,9 +30,9 @@ last_taken [] = []
 last_taken (row ∷ []) = row.taken
 last_taken (row ∷ next ∷ rows) = last_taken (next ∷ rows)
 
--- The rows from a place on have all of the unit's rows of the login and of later ones. The responses that the client's queue got are one for each of the unit's
--- rows with an answer, in their order; those of the rows from that place on are the last of its last session; and the queue handed them over, where
--- its partition makes no raw call and does not fail.
+-- The rows from a place on have all of the unit's rows of the login and of later ones. The responses that the client's queue got are one
+-- for each of the unit's rows with an answer, in their order; those of the rows from that place on are the last of its last session; and
+-- the queue handed them over, where its partition makes no raw call and does not fail.
 pub record AreLastOf (partitions : List Partition) (trace : Trace) (server client : UnitId) (login : ℕ) : Type 0 where
   pub before : List Served
   pub behind : List Served

@@ -29,8 +29,9 @@ LaysBy is_shared None old new = LaysNoStroke is_shared old new
 LaysBy is_shared (Some mark) old new = LaysUnder is_shared mark old new
 
 -- The end is where it was, and on a link of its own at the same session of the partner; its queue was not freed, and no event made, unless
--- that may be, and the partner was told of what was; the window was kept, and the driver is that of the same unit, whose data still lie in the region, and
--- whose answers were read in its slots; it is logged in only where something was put into its queue. Each stroke of its own that the window has more bears this mark; where none is given it has no stroke more.
+-- that may be, and the partner was told of what was; the window was kept, and the driver is that of the same unit, whose data still lie in
+-- the region, and whose answers were read in its slots; it is logged in only where something was put into its queue. Each stroke of its own
+-- that the window has more bears this mark; where none is given it has no stroke more.
 pub record Works (may_free end_shared is_shared : Bool) (mark : Option ℕ) (end end' : EndState) (own own' : PortState) (driver driver' : Driver) : Type 0 where
   pub place : end'.place ≡ end.place
   pub session : end_shared ≡ false → end'.counts.partner_session ≡ end.counts.partner_session

@@ -24,7 +24,7 @@ ghost use Rattle.vcpu_run.specs.Sendings.{SaysSent, SaysTurned, SaysWhy};
 ghost use Rattle.vcpu_run.specs.Commands.{IsOpOf, cdb_of};
 ghost use Rattle.vcpu_run.specs.LinesShow.{LogsIn, StepShows, further_of, read_by, requests, seen_by, seen_since, written_by};
 ghost use Rattle.vio_num.specs.declared.names.UnitId.{UnitId as UnitValue};
-ghost use Rattle.vcpu_run.specs.PlainSteps.{LogsInPlainly, StepsPlainly, own_by};
+ghost use Rattle.vcpu_run.specs.PlainSteps.{LogsInPlainly, StepsPlainly, own_of};
 ghost use Rattle.vcpu_run.specs.Replay.{asks, ranges_of};
 ghost use Rattle.vcpu_run.specs.Takings.{Gives, StepsTaken};
 ghost use Rattle.vcpu_run.specs.Telling.{LeavesOut, StepsOut, StepsTold, seated};
@@ -134,8 +134,8 @@ impl Driver {
         ensures credit { (verb : VerbValue) →
             StepsAgreed verb 0 0 self.old.client self.new.client result }
         ensures plainly { C.is_shared ≡ false → O.is_shared ≡ false → LogsInPlainly
-            (own_by self.old.client (C.state crq.old.end) (O.state own.old))
-            (own_by self.new.client (C.state crq.new.end) (O.state own.new)) result }
+            (own_of self.old (C.state crq.old.end) (O.state own.old))
+            (own_of self.new (C.state crq.new.end) (O.state own.new)) result }
     {
         let turn = self.client.login_turn(crq, own, line)?;
         Ok(turned(turn, crq.moved()))
@@ -184,8 +184,8 @@ impl Driver {
             (C.state crq.old.end) (C.state crq.new.end) }
         ensures plainly { C.is_shared ≡ false → O.is_shared ≡ false →
             StepsPlainly verbs.Reset progress.old progress.new
-            (own_by self.old.client (C.state crq.old.end) (O.state own.old))
-            (own_by self.new.client (C.state crq.new.end) (O.state own.new)) result }
+            (own_of self.old (C.state crq.old.end) (O.state own.old))
+            (own_of self.new (C.state crq.new.end) (O.state own.new)) result }
     {
         if *progress == Progress::Freed {
             return self.login(crq, own, line);
@@ -221,8 +221,8 @@ impl Driver {
             IfOk result (StepReads (seen_by shared (O.state own.new) end)
             self.old.client (verbs.Data tag)) }
         ensures plainly { O.is_shared ≡ false → (end : EndState) (p : ProgressValue) →
-            StepsPlainly (verbs.Data tag) p p (own_by self.old.client end (O.state own.old))
-            (own_by self.new.client end (O.state own.new)) result }
+            StepsPlainly (verbs.Data tag) p p (own_of self.old end (O.state own.old))
+            (own_of self.new end (O.state own.new)) result }
     {
         match self.client.data_of(own, tag) {
             Ok(bytes) => Ok(Step::Ends(Outcome::Data {
@@ -276,8 +276,8 @@ impl Driver {
             (C.state crq.old.end) (C.state crq.new.end) }
         ensures plainly { C.is_shared ≡ false → O.is_shared ≡ false →
             (verb : VerbValue) (p : ProgressValue) → IsOpOf verb op.now → StepsPlainly verb p p
-            (own_by self.old.client (C.state crq.old.end) (O.state own.old))
-            (own_by self.new.client (C.state crq.new.end) (O.state own.new)) result }
+            (own_of self.old (C.state crq.old.end) (O.state own.old))
+            (own_of self.new (C.state crq.new.end) (O.state own.new)) result }
     {
         sent(self.client.submit(crq, own, op, line))
     }
@@ -317,8 +317,8 @@ impl Driver {
             (C.state crq.old.end) (C.state crq.new.end) }
         ensures plainly { C.is_shared ≡ false → O.is_shared ≡ false →
             (p : ProgressValue) → StepsPlainly (verbs.Task function tag) p p
-            (own_by self.old.client (C.state crq.old.end) (O.state own.old))
-            (own_by self.new.client (C.state crq.new.end) (O.state own.new)) result }
+            (own_of self.old (C.state crq.old.end) (O.state own.old))
+            (own_of self.new (C.state crq.new.end) (O.state own.new)) result }
     {
         sent(self.client.task(crq, own, function, tag, line))
     }
@@ -355,8 +355,8 @@ impl Driver {
             (C.state crq.old.end) (C.state crq.new.end) }
         ensures plainly { C.is_shared ≡ false → O.is_shared ≡ false →
             (p : ProgressValue) → StepsPlainly verbs.Logout p p
-            (own_by self.old.client (C.state crq.old.end) (O.state own.old))
-            (own_by self.new.client (C.state crq.new.end) (O.state own.new)) result }
+            (own_of self.old (C.state crq.old.end) (O.state own.old))
+            (own_of self.new (C.state crq.new.end) (O.state own.new)) result }
     {
         sent(self.client.logout(crq, own, line))
     }
@@ -389,8 +389,8 @@ impl Driver {
             (C.state crq.old.end) (C.state crq.new.end) }
         ensures plainly { C.is_shared ≡ false → O.is_shared ≡ false →
             StepsPlainly (verbs.Take count) progress.old progress.new
-            (own_by self.old.client (C.state crq.old.end) (O.state own.old))
-            (own_by self.new.client (C.state crq.new.end) (O.state own.new)) result }
+            (own_of self.old (C.state crq.old.end) (O.state own.old))
+            (own_of self.new (C.state crq.new.end) (O.state own.new)) result }
     {
         let mut taken = progress.taken();
         let step = self.take(crq, own, count, &mut taken)?;
@@ -451,8 +451,8 @@ impl Driver {
             (C.state crq.old.end) (C.state crq.new.end) }
         ensures plainly { C.is_shared ≡ false → O.is_shared ≡ false →
             StepsPlainly line.now.verb progress.old progress.new
-            (own_by self.old.client (C.state crq.old.end) (O.state own.old))
-            (own_by self.new.client (C.state crq.new.end) (O.state own.new)) result }
+            (own_of self.old (C.state crq.old.end) (O.state own.old))
+            (own_of self.new (C.state crq.new.end) (O.state own.new)) result }
     {
         let mark = u64::from(line.number);
         if let Some(op) = op_of(&line.verb) {

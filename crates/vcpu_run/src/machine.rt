@@ -7,7 +7,7 @@ ghost use Rattle.block_server.specs.DiskLaw.{KeepsDisk};
 ghost use Rattle.block_server.specs.declared.unit.Unit.{Unit};
 ghost use Rattle.vcpu_run.specs.Agreed.{AreCredited};
 ghost use Rattle.vcpu_run.specs.CopiesCounted.{copies_at};
-ghost use Rattle.vcpu_run.specs.Caused.{IsShownAll, KeepsCaused, LeadsCaused};
+ghost use Rattle.vcpu_run.specs.Caused.{IsShownAll, KeepsCaused, LeadsCaused, RowsAreInForm};
 ghost use Rattle.vcpu_run.specs.Answered.{AreAnswered};
 ghost use Rattle.vcpu_run.specs.Grants.{TellsGrants};
 ghost use Rattle.vcpu_run.specs.Heard.{AreHeard};
@@ -163,6 +163,10 @@ impl<'p, Di: Blocks> Machine<'p, Di> {
             self.entry.lan.seats → KeepsCaused partitions trace
             self.entry.server.records.history.items
             (Di.state self.entry.server.disk.image).blocks (Di.state result.image).blocks) }
+        ensures formed { IfSome result.trace (λ trace. (partitions : List Partition) →
+            IsOfPlan partitions self.entry.pairs.items self.entry.scripts.items
+            self.entry.lan.seats → RowsAreInForm partitions trace
+            self.entry.server.disk.count) }
         ensures disk { IfSome result.trace (λ trace. ∥ KeepsDisk
             self.entry.server.records.history.items trace.serves
             (Di.state self.entry.server.disk.image).blocks (Di.state result.image).blocks ∥₁) }
@@ -192,8 +196,8 @@ impl<'p, Di: Blocks> Machine<'p, Di> {
 
 /// Runs a plan over an image of `count` blocks until nothing moves any more. Its trace keeps the law of the
 /// plan's runs, and its rows lead from the image's blocks to those that the image then has, each with a cause
-/// that the trace shows. Where memory runs out, the image has the blocks to which the commands lead that were
-/// served till then.
+/// that the trace shows; each that is answered is in form, on a disk of so many blocks. Where memory runs out, the
+/// image has the blocks to which the commands lead that were served till then.
 pub fn settle_plan<Di: Blocks + Drop>(
     alloc: Global,
     plan: &Plan,
@@ -205,6 +209,8 @@ pub fn settle_plan<Di: Blocks + Drop>(
     ensures law { IfSome result.trace (KeepsLaw plan.now) }
     ensures caused { IfSome result.trace (λ trace. LeadsCaused plan.now.partitions trace
         (Di.state image).blocks (Di.state result.image).blocks) }
+    ensures formed { IfSome result.trace (λ trace. RowsAreInForm plan.now.partitions trace
+        (Di.state image).size) }
     ensures disk { IfSome result.trace (λ trace. LeadsOn trace.serves
         (Di.state image).blocks (Di.state result.image).blocks) }
     ensures tells { IfSome (Di.state image).blocks (λ _. IsSome (Di.state result.image).blocks) }

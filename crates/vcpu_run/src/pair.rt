@@ -1,26 +1,22 @@
 // A server unit and its client unit: the link between them, and both windows.
-ghost use Rattle.std.specs.Prelude.{◌≡◌, ◌≢◌, ◌*◌, ◌<◌, ℕ, Bool, [], true, None, IfOk, IfSome, OnOk, slice_get, vec_len, false};
+ghost use Rattle.std.specs.Prelude.{◌≡◌, ◌≢◌, ◌*◌, ◌<◌, ℕ, Bool, [], true, None, IfOk, IfSome, OnOk, slice_get, vec_len};
 ghost use Rattle.boot_text.specs.Sound.{IsFrom};
 ghost use Rattle.boot_text.specs.declared.statement.TheConstants.{MOST_QUEUE};
 ghost use Rattle.crq_session.specs.PlainState.{side_of, IsNewLink};
 ghost use Rattle.vcpu_run.specs.ClientStrokes.{KeepsOwn};
 ghost use Rattle.vcpu_run.specs.Agreed.{IsLoggedOut};
 ghost use Rattle.vcpu_run.specs.Answered.{IsAnswered};
-ghost use Rattle.vcpu_run.specs.DropsShown.{KeepsFull};
-ghost use Rattle.vcpu_run.specs.Freed.{FreesNoneAt};
 ghost use Rattle.block_server.specs.Causes.{Told};
-ghost use Rattle.block_server.specs.DiskLaw.{KeepsDiskBy};
-ghost use Rattle.block_server.specs.Units.{AreInOrder};
+ghost use Rattle.block_server.specs.TurnTold.{stock};
 ghost use Rattle.vcpu_run.specs.Grants.{KeepsGrants};
-ghost use Rattle.vcpu_run.specs.Heard.{AllGoBy, UnitGoesBy, ShowsMore, TellsPair};
+ghost use Rattle.vcpu_run.specs.Heard.{ShowsMore, TellsPair};
 ghost use Rattle.vcpu_run.specs.Links.{IsClosed, IsLinked, ServerWaits, link_state};
-ghost use Rattle.vcpu_run.specs.Machines.{FitsSeat, HasSeat, SitsAt, Stays, server_id};
-ghost use Rattle.vcpu_run.specs.Named.{HasWindow};
+ghost use Rattle.vcpu_run.specs.Machines.{FitsSeat, HasSeat, SitsAt, Stays};
 ghost use Rattle.vcpu_run.specs.OnDisk.{LastsOnDisk};
+ghost use Rattle.vcpu_run.specs.PairServed.{KeepsClient, PairGoesBy, SparesPair};
 ghost use Rattle.vcpu_run.specs.Pairs.{IsPair};
-ghost use Rattle.vcpu_run.specs.PlainPairs.{IdlesPlainly, OpensPlainly, ServesPlainly, SparesUnit, books_of};
+ghost use Rattle.vcpu_run.specs.PlainPairs.{IdlesPlainly, OpensPlainly, ServesPlainly, books_of};
 ghost use Rattle.vcpu_run.specs.Received.{IsNew, IsReceived};
-ghost use Rattle.vcpu_run.specs.ShutShown.{StaysServed};
 ghost use Rattle.vcpu_run.specs.ValuesPut.{SameValues};
 
 use crate::driver::Driver;
@@ -156,81 +152,44 @@ impl Pair {
         requires received { IsReceived server.old.units.items server.old.copies.items
             server.old.records.grants.items server.old.records.history.items unit self.old }
         ensures pair { IsPair server.old.partition server.new.copies.items unit self.new }
-        ensures others { (k : ℕ) (other : Pair) → k ≢ unit →
-            ((id : UnitId) → HasWindow id self.old → HasWindow id other → ⊥) →
-            IsPair server.old.partition server.old.copies.items k other →
-            IsPair server.old.partition server.new.copies.items k other }
         ensures stays { Stays self.old self.new }
         ensures driver { self.new.driver ≡ self.old.driver }
         ensures units { vec_len server.new.units ≡ vec_len server.old.units }
         ensures partition { server.new.partition ≡ server.old.partition }
+        ensures count { server.new.disk.count ≡ server.old.disk.count }
         ensures answered { IsAnswered server.new.records.history.items self.new }
-        ensures elsewhere { (k : ℕ) (other : Pair) → k ≢ unit →
-            other.server ≡ server_id server.old.partition k →
-            IsAnswered server.old.records.history.items other →
-            IsAnswered server.new.records.history.items other }
         ensures received { IsReceived server.new.units.items server.new.copies.items
             server.new.records.grants.items server.new.records.history.items unit self.new }
-        ensures received_else { (k : ℕ) (other : Pair) → k ≢ unit →
-            other.own.unit ≡ server_id server.old.partition k →
-            IsReceived server.old.units.items server.old.copies.items
-            server.old.records.grants.items server.old.records.history.items k other →
-            IsReceived server.new.units.items server.new.copies.items
-            server.new.records.grants.items server.new.records.history.items k other }
         ensures shows { ShowsMore server.old.copies.items server.new.copies.items
             self.old self.new }
         ensures own { self.new.own.unit ≡ self.old.own.unit }
         ensures values { SameValues self.old self.new }
         ensures owner { KeepsOwn self.old self.new }
         ensures told { (told : Told → Bool) →
-            TellsPair told server.new.copies.items self.new →
-            AllGoBy told server.old.disk.count server.old.partition
-            server.old.units.items server.old.records →
-            AllGoBy told server.new.disk.count server.new.partition
-            server.new.units.items server.new.records }
-        ensures causes { (told : Told → Bool) →
-            TellsPair told server.new.copies.items self.new →
-            AreInOrder told server.old.disk.count server.old.partition
-            server.old.units.items server.old.records → KeepsDiskBy told
-            server.old.records.history.items server.new.records.history.items
-            (Di.state server.old.disk.image).blocks (Di.state server.new.disk.image).blocks }
-        ensures told_own { (told : Told → Bool) →
-            TellsPair told server.new.copies.items self.new →
-            AllGoBy told server.old.disk.count server.old.partition
-            server.old.units.items server.old.records →
-            UnitGoesBy told server.old.units.items server.old.records
-            server.old.copies.items unit self.old →
-            UnitGoesBy told server.new.units.items server.new.records
-            server.new.copies.items unit self.new }
-        ensures told_else { (told : Told → Bool) (k : ℕ) (other : Pair) → k ≢ unit →
-            other.own.unit ≡ server_id server.old.partition k →
-            AreInOrder told server.old.disk.count server.old.partition
-            server.old.units.items server.old.records →
-            UnitGoesBy told server.old.units.items server.old.records
-            server.old.copies.items k other →
-            ∥ UnitGoesBy told server.new.units.items server.new.records
-            server.new.copies.items k other ∥₁ }
-        ensures units_else { (k : ℕ) → k ≢ unit →
-            slice_get server.new.units.items k ≡ slice_get server.old.units.items k }
+            TellsPair told server.new.copies.items self.new → PairGoesBy told unit
+            (stock server.old.disk.count server.old.partition server.old.units.items
+            server.old.records server.old.copies.items
+            (Di.state server.old.disk.image).blocks)
+            (stock server.new.disk.count server.new.partition server.new.units.items
+            server.new.records server.new.copies.items
+            (Di.state server.new.disk.image).blocks)
+            self.old self.new }
+        ensures beside { (k : ℕ) → k ≢ unit → SparesPair
+            (stock server.old.disk.count server.old.partition server.old.units.items
+            server.old.records server.old.copies.items
+            (Di.state server.old.disk.image).blocks)
+            (stock server.new.disk.count server.new.partition server.new.units.items
+            server.new.records server.new.copies.items
+            (Di.state server.new.disk.image).blocks)
+            self.old k }
         ensures grants { KeepsGrants server.old.units.items server.new.units.items
             server.old.records.grants.items server.new.records.grants.items }
         ensures disk { LastsOnDisk server.old.records.history.items
             server.new.records.history.items (Di.state server.old.disk.image).blocks
             (Di.state server.new.disk.image).blocks }
-        ensures unfreed { FreesNoneAt self.old self.new }
-        ensures queue { (side_of self.new.link false).registered
-            ≡ (side_of self.old.link false).registered }
-        ensures sent { (side_of self.new.link true).queue.sent
-            ≡ (side_of self.old.link true).queue.sent }
-        ensures full { KeepsFull self.old self.new }
-        ensures served { StaysServed self.old.link self.new.link }
-        ensures taken { (side_of self.new.link false).queue.taken
-            ≡ (side_of self.old.link false).queue.taken }
-        ensures kept { (side_of self.new.link false).kept ≡ (side_of self.old.link false).kept }
+        ensures client { KeepsClient self.old self.new }
         ensures linked { OnOk result (IsLinked server.old.units.items unit self.old →
             IsLinked server.new.units.items unit self.new) }
-        ensures linked_else { (k : ℕ) (other : Pair) → k ≢ unit →
-            IsLinked server.old.units.items k other → IsLinked server.new.units.items k other }
         ensures quiet { IfOk result (λ moved. moved ≡ Moved.Quiet →
             IsLinked server.old.units.items unit self.old →
             ServerWaits (slice_get server.new.units.items unit) (link_state self.new.link)) }
@@ -246,11 +205,6 @@ impl Pair {
             server.old.records.history.items)
             (books_of server.new.units.items server.new.records.grants.items
             server.new.records.history.items) unit self.old) }
-        ensures plainly_else { (k : ℕ) → k ≢ unit → SparesUnit server.old.partition
-            (books_of server.old.units.items server.old.records.grants.items
-            server.old.records.history.items)
-            (books_of server.new.units.items server.new.records.grants.items
-            server.new.records.history.items) k }
     {
         let mut end = SessionEnd {
             end: self.link.side(true),

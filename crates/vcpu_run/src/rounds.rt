@@ -79,6 +79,7 @@ pub(crate) fn run<Di: Blocks>(
         server.new.units.items server.new.records server.new.copies.items pairs.new }
     ensures grants { KeepsGrants server.old.units.items server.new.units.items
         server.old.records.grants.items server.new.records.grants.items }
+    ensures count { server.new.disk.count ≡ server.old.disk.count }
     ensures disk { LastsOnDisk server.old.records.history.items server.new.records.history.items
         (Di.state server.old.disk.image).blocks (Di.state server.new.disk.image).blocks }
     ensures causes { LastsBy server.old.copies.items server.new.copies.items
@@ -156,6 +157,7 @@ fn step<Di: Blocks>(
         server.new.units.items server.new.records server.new.copies.items pairs.new }
     ensures grants { KeepsGrants server.old.units.items server.new.units.items
         server.old.records.grants.items server.new.records.grants.items }
+    ensures count { server.new.disk.count ≡ server.old.disk.count }
     ensures disk { LastsOnDisk server.old.records.history.items server.new.records.history.items
         (Di.state server.old.disk.image).blocks (Di.state server.new.disk.image).blocks }
     ensures causes { LastsBy server.old.copies.items server.new.copies.items
@@ -221,6 +223,7 @@ fn round<Di: Blocks>(
         server.new.units.items server.new.records server.new.copies.items pairs.new }
     ensures grants { KeepsGrants server.old.units.items server.new.units.items
         server.old.records.grants.items server.new.records.grants.items }
+    ensures count { server.new.disk.count ≡ server.old.disk.count }
     ensures disk { LastsOnDisk server.old.records.history.items server.new.records.history.items
         (Di.state server.old.disk.image).blocks (Di.state server.new.disk.image).blocks }
     ensures out { IfOk result (λ moved. moved ≡ Moved.Quiet → AreTold pairs.old scripts.old →
@@ -297,6 +300,7 @@ fn turn_at<Di: Blocks>(
         server.new.units.items server.new.records server.new.copies.items pairs.new }
     ensures grants { KeepsGrants server.old.units.items server.new.units.items
         server.old.records.grants.items server.new.records.grants.items }
+    ensures count { server.new.disk.count ≡ server.old.disk.count }
     ensures disk { LastsOnDisk server.old.records.history.items server.new.records.history.items
         (Di.state server.old.disk.image).blocks (Di.state server.new.disk.image).blocks }
     ensures out { IfOk result (λ moved. moved ≡ Moved.Quiet → AreTold pairs.old scripts.old →
@@ -364,6 +368,7 @@ fn serve<Di: Blocks>(server: &mut Server<Di>, pairs: &mut [Pair]) -> Result<Move
         server.new.units.items server.new.records server.new.copies.items pairs.new }
     ensures grants { KeepsGrants server.old.units.items server.new.units.items
         server.old.records.grants.items server.new.records.grants.items }
+    ensures count { server.new.disk.count ≡ server.old.disk.count }
     ensures disk { LastsOnDisk server.old.records.history.items server.new.records.history.items
         (Di.state server.old.disk.image).blocks (Di.state server.new.disk.image).blocks }
     ensures causes { LastsBy server.old.copies.items server.new.copies.items
@@ -424,6 +429,7 @@ fn serve_at<Di: Blocks>(
         server.new.units.items server.new.records server.new.copies.items pairs.new }
     ensures grants { KeepsGrants server.old.units.items server.new.units.items
         server.old.records.grants.items server.new.records.grants.items }
+    ensures count { server.new.disk.count ≡ server.old.disk.count }
     ensures disk { LastsOnDisk server.old.records.history.items server.new.records.history.items
         (Di.state server.old.disk.image).blocks (Di.state server.new.disk.image).blocks }
     ensures causes { LastsBy server.old.copies.items server.new.copies.items

@@ -218,6 +218,8 @@ fn freed(pair: &mut Pair)
         SameCredits a.client b.client) }
     ensures told { OnDrivers pair.old.driver pair.new.driver (λ a b.
         b.client ≡ unlinked a.client) }
+    ensures noted { OnDrivers pair.old.driver pair.new.driver (λ a b.
+        b.answers.items ≡ a.answers.items) }
 {
     let Some(driver) = &mut pair.driver else {
         unreachable!()

@@ -6,7 +6,7 @@ ghost use Rattle.vcpu_run.specs.Credited.{StepsAgreed, taken_in};
 ghost use Rattle.vcpu_run.specs.DropsShown.{IsFullBy, StepFull};
 ghost use Rattle.vcpu_run.specs.EventsHeard.{Hears, StepHears, lost_by};
 ghost use Rattle.vcpu_run.specs.Links.{EndRests};
-ghost use Rattle.vcpu_run.specs.PlainSteps.{RestsPlainly, StepsPlainly, TakesPlainly, own_by};
+ghost use Rattle.vcpu_run.specs.PlainSteps.{RestsPlainly, StepsPlainly, TakesPlainly, own_of};
 ghost use Rattle.vcpu_run.specs.Sendings.{TookOf};
 ghost use Rattle.vcpu_run.specs.Takings.{Gives, StepsTaken, TookTaken};
 ghost use Rattle.vcpu_run.specs.Telling.{StepsTold, TookTold, seated};
@@ -57,8 +57,8 @@ impl Driver {
             EndRests (C.state crq.old.end) (C.state crq.new.end)) }
         ensures plainly { IfOk result (λ took. C.is_shared ≡ false → O.is_shared ≡ false →
             TakesPlainly took
-            (own_by self.old.client (C.state crq.old.end) (O.state own.old))
-            (own_by self.new.client (C.state crq.new.end) (O.state own.new))) }
+            (own_of self.old (C.state crq.old.end) (O.state own.old))
+            (own_of self.new (C.state crq.new.end) (O.state own.new))) }
     {
         match self.client.take_answer(crq, own)? {
             Taken::Answer { tag, rsp } => {
@@ -90,8 +90,8 @@ impl Driver {
         ensures quiet { IfOk result (λ moved. C.is_shared ≡ false → moved ≡ Moved.Quiet →
             EndRests (C.state crq.old.end) (C.state crq.new.end)) }
         ensures plainly { C.is_shared ≡ false → O.is_shared ≡ false → RestsPlainly
-            (own_by self.old.client (C.state crq.old.end) (O.state own.old))
-            (own_by self.new.client (C.state crq.new.end) (O.state own.new)) result }
+            (own_of self.old (C.state crq.old.end) (O.state own.old))
+            (own_of self.new (C.state crq.new.end) (O.state own.new)) result }
     {
         let mut moved = Moved::Quiet;
         for _taken in 0..crq.slots() {
@@ -135,8 +135,8 @@ impl Driver {
         ensures plainly { C.is_shared ≡ false → O.is_shared ≡ false →
             (p : ProgressValue) → taken_in p ≡ taken.old →
             StepsPlainly (verbs.Take count) p (stages.Took taken.new)
-            (own_by self.old.client (C.state crq.old.end) (O.state own.old))
-            (own_by self.new.client (C.state crq.new.end) (O.state own.new)) result }
+            (own_of self.old (C.state crq.old.end) (O.state own.old))
+            (own_of self.new (C.state crq.new.end) (O.state own.new)) result }
     {
         if *taken >= count {
             return Ok(Step::Ends(Outcome::Took(*taken)));

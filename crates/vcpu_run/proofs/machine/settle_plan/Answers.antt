@@ -1,7 +1,8 @@
-use Rattle.std.proofs.Common.{List, [], IfSome, IsSome, ap, subst, sym}
+use Rattle.std.proofs.Common.{◌≡◌, ◌∙◌, List, [], IfSome, IsSome, ap, subst, sym}
 use Rattle.vio_num.specs.declared.history.Served.{Served}
 use Rattle.block_server.specs.DiskLaw.{KeepsDisk}
 use Rattle.vcpu_run.specs.Answered.{AreAnswered}
+use Rattle.vcpu_run.specs.Caused.{RowsAreInForm}
 use Rattle.vcpu_run.specs.OnDisk.{IsServed, LastsInRows}
 use Rattle.vcpu_run.specs.Machines.{IsOfPlan}
 use Rattle.vcpu_run.proofs.Causings.{caused_of_plan}
@@ -60,3 +61,10 @@ returns-in-Ok-clause-caused g c =
     caused_of_plan c.settle.result.trace c.args.plan.now.partitions machine.server.records.history.items (g.Di.Blocks.state machine.server.disk.image).blocks (g.Di.Blocks.state c.args.image).blocks
     (g.Di.Blocks.state c.settle.result.image).blocks (λ partitions. IsOfPlan partitions machine.pairs.items machine.scripts.items machine.lan.seats)
     c.in-Ok.ensures.of_plan c.in-Ok.ensures.none (ap (λ image. (g.Di.Blocks.state image).blocks) c.in-Ok.ensures.image) c.settle.ensures.caused
+
+pub returns-in-Ok-clause-formed : goal.returns-in-Ok-clause-formed
+returns-in-Ok-clause-formed g c =
+    let sized : c.in-Ok.machine.server.disk.count ≡ (g.Di.Blocks.state c.args.image).size =
+    c.in-Ok.machine.server.disk.sized ∙ ap (λ image. (g.Di.Blocks.state image).size) c.in-Ok.ensures.image in
+    IfSome_then c.settle.result.trace c.settle.ensures.formed
+    (λ trace formed. subst (RowsAreInForm c.args.plan.now.partitions trace) sized (formed c.args.plan.now.partitions c.in-Ok.ensures.of_plan))

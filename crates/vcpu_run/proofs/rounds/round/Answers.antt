@@ -12,7 +12,7 @@ use Rattle.vcpu_run.proofs.PlainRuns.{quiet_none, round_plainly, round_quietly}
 use Rattle.vcpu_run.proofs.rounds.round.Goals as goal
 
 pub loop-number-init : goal.loop-number-init
-loop-number-init g c = record { machine = c.requires.machine; stay = all_same c.args.pairs.now; run = run_same c.args.scripts.now; answered = c.requires.answered; received = c.requires.received; heard = c.requires.heard; grants = λ granted is. is; disk = lasts_same c.args.server.now.records.history.items (g.Di.Blocks.state c.args.server.now.disk.image).blocks; causes = causes_same c.args.server.now.copies.items c.args.pairs.now c.args.server.now.records.history.items (g.Di.Blocks.state c.args.server.now.disk.image).blocks; credited = λ are. are; said = λ told. told; out = λ is told. out_none c.args.pairs.now c.args.scripts.now; told = λ tells. tells; lan = refl; linked = λ are. are; unfreed = λ keep. keep; opened = λ is linked. open_none c.args.pairs.now c.args.scripts.now; idle = λ is are over. idle_none c.args.server.now.units.items c.args.pairs.now c.args.scripts.now; plainly = λ granted are. are; quietly = λ is granted are. quiet_none c.args.server.now.partition (books_of c.args.server.now.units.items c.args.server.now.records.grants.items c.args.server.now.records.history.items) c.args.scripts.now; taken = λ is over. ports_none c.args.lan.now c.args.scripts.now }
+loop-number-init g c = record { machine = c.requires.machine; stay = all_same c.args.pairs.now; run = run_same c.args.scripts.now; answered = c.requires.answered; received = c.requires.received; heard = c.requires.heard; grants = λ granted is. is; count = refl; disk = lasts_same c.args.server.now.records.history.items (g.Di.Blocks.state c.args.server.now.disk.image).blocks; causes = causes_same c.args.server.now.copies.items c.args.pairs.now c.args.server.now.records.history.items (g.Di.Blocks.state c.args.server.now.disk.image).blocks; credited = λ are. are; said = λ told. told; out = λ is told. out_none c.args.pairs.now c.args.scripts.now; told = λ tells. tells; lan = refl; linked = λ are. are; unfreed = λ keep. keep; opened = λ is linked. open_none c.args.pairs.now c.args.scripts.now; idle = λ is are over. idle_none c.args.server.now.units.items c.args.pairs.now c.args.scripts.now; plainly = λ granted are. are; quietly = λ is granted are. quiet_none c.args.server.now.partition (books_of c.args.server.now.units.items c.args.server.now.records.grants.items c.args.server.now.records.history.items) c.args.scripts.now; taken = λ is over. ports_none c.args.lan.now c.args.scripts.now }
 
 pub loop-number-preserved : goal.loop-number-preserved
 loop-number-preserved g c =
@@ -26,6 +26,7 @@ loop-number-preserved g c =
       received = after.received;
       heard = after.heard;
       grants = λ granted is. c.turn_at.ensures.grants granted (c.loop-number.invariant.grants granted is);
+      count = c.turn_at.ensures.count ∙ c.loop-number.invariant.count;
       disk = lasts_then c.args.server.now.records.history.items c.loop-number.server.records.history.items c.turn_at.new.server.records.history.items
           (g.Di.Blocks.state c.args.server.now.disk.image).blocks (g.Di.Blocks.state c.loop-number.server.disk.image).blocks (g.Di.Blocks.state c.turn_at.new.server.disk.image).blocks c.loop-number.invariant.disk c.turn_at.ensures.disk;
       causes = causes_then c.args.server.now.copies.items c.loop-number.server.copies.items c.turn_at.new.server.copies.items c.args.pairs.now c.loop-number.pairs c.turn_at.new.pairs

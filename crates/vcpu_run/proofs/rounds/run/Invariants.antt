@@ -25,6 +25,7 @@ invariant-loop-round g l = record {
   received : AreReceived l.server.units.items l.server.copies.items l.server.records.grants.items l.server.records.history.items l.pairs;
   heard : AreHeard l.server.disk.count l.server.partition l.server.units.items l.server.records l.server.copies.items l.pairs;
   grants : KeepsGrants l.initial.server.units.items l.server.units.items l.initial.server.records.grants.items l.server.records.grants.items;
+  count : l.server.disk.count ≡ l.initial.server.disk.count;
   disk : LastsOnDisk l.initial.server.records.history.items l.server.records.history.items
       (g.Di.Blocks.state l.initial.server.disk.image).blocks (g.Di.Blocks.state l.server.disk.image).blocks;
   causes : LastsBy l.initial.server.copies.items l.server.copies.items l.initial.pairs l.pairs l.initial.server.records.history.items l.server.records.history.items

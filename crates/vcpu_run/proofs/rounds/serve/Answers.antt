@@ -11,7 +11,7 @@ use Rattle.vcpu_run.proofs.PlainRounds.{idled_all, idled_next, idled_none, serve
 use Rattle.vcpu_run.proofs.rounds.serve.Goals as goal
 
 pub loop-unit-init : goal.loop-unit-init
-loop-unit-init g c = record { serving = c.requires.serving; copies = begins_same c.args.server.now.copies.items; stay = all_same c.args.pairs.now; drivers = λ k. refl; clients = clients_same c.args.pairs.now; answered = c.requires.answered; received = c.requires.received; heard = c.requires.heard; grants = λ granted is. is; disk = lasts_same c.args.server.now.records.history.items (g.Di.Blocks.state c.args.server.now.disk.image).blocks; causes = causes_same c.args.server.now.copies.items c.args.pairs.now c.args.server.now.records.history.items (g.Di.Blocks.state c.args.server.now.disk.image).blocks; linked = λ are. are; stays = frees_same _ c.args.pairs.now; wait = λ is are k link less found. absurd (omega (arith, less)); partition = refl; plainly = served_none c.args.server.now.partition (books_of c.args.server.now.units.items c.args.server.now.records.grants.items c.args.server.now.records.history.items) c.args.pairs.now; idled = λ is. idled_none c.args.server.now.partition (books_of c.args.server.now.units.items c.args.server.now.records.grants.items c.args.server.now.records.history.items) c.args.pairs.now }
+loop-unit-init g c = record { serving = c.requires.serving; copies = begins_same c.args.server.now.copies.items; stay = all_same c.args.pairs.now; drivers = λ k. refl; clients = clients_same c.args.pairs.now; answered = c.requires.answered; received = c.requires.received; heard = c.requires.heard; grants = λ granted is. is; count = refl; disk = lasts_same c.args.server.now.records.history.items (g.Di.Blocks.state c.args.server.now.disk.image).blocks; causes = causes_same c.args.server.now.copies.items c.args.pairs.now c.args.server.now.records.history.items (g.Di.Blocks.state c.args.server.now.disk.image).blocks; linked = λ are. are; stays = frees_same _ c.args.pairs.now; wait = λ is are k link less found. absurd (omega (arith, less)); partition = refl; plainly = served_none c.args.server.now.partition (books_of c.args.server.now.units.items c.args.server.now.records.grants.items c.args.server.now.records.history.items) c.args.pairs.now; idled = λ is. idled_none c.args.server.now.partition (books_of c.args.server.now.units.items c.args.server.now.records.grants.items c.args.server.now.records.history.items) c.args.pairs.now }
 
 pub loop-unit-preserved : goal.loop-unit-preserved
 loop-unit-preserved g c = record {
@@ -24,6 +24,7 @@ loop-unit-preserved g c = record {
   received = c.serve_at.ensures.received;
   heard = c.serve_at.ensures.heard;
   grants = λ granted is. c.serve_at.ensures.grants granted (c.loop-unit.invariant.grants granted is);
+  count = c.serve_at.ensures.count ∙ c.loop-unit.invariant.count;
   disk = lasts_then c.args.server.now.records.history.items c.loop-unit.server.records.history.items c.serve_at.new.server.records.history.items
       (g.Di.Blocks.state c.args.server.now.disk.image).blocks (g.Di.Blocks.state c.loop-unit.server.disk.image).blocks (g.Di.Blocks.state c.serve_at.new.server.disk.image).blocks c.loop-unit.invariant.disk c.serve_at.ensures.disk;
   causes = causes_then c.args.server.now.copies.items c.loop-unit.server.copies.items c.serve_at.new.server.copies.items c.args.pairs.now c.loop-unit.pairs c.serve_at.new.pairs

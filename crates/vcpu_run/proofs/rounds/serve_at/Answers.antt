@@ -42,14 +42,14 @@ returns-clause-serving g c =
       each = after.units ∙ (before.each ∙ sym count);
       few = subst (λ n. n ≤ 8) (sym count) before.few;
       pairs_are = rw after.partition (each_set (IsPair c.args.server.now.partition c.serve.new.server.copies.items) pairs c.args.unit c.serve.new.self
-          (λ k other there apart. after.others k other apart
+          (λ k other there apart. (after.beside k apart).pair other
           (λ unit has has_other. apart (before.apart k c.args.unit other old unit there here has_other has)) (before.pairs_are k other there)) after.pair);
       apart = apart_stays pairs (slice_set pairs c.args.unit c.serve.new.self)
           (record {
             count = count;
             each = each_on Stays pairs c.args.unit old c.serve.new.self stays_same here after.stays;
             sees = each_on (λ (a b : Pair). Sees (seen_at a) (seen_at b)) pairs c.args.unit old c.serve.new.self (λ pair. sees_same (seen_at pair)) here
-                (serve_sees old c.serve.new.self after.shows.window after.sent);
+                (serve_sees old c.serve.new.self after.shows.window after.client.sent);
             values = each_on KeepsEntries pairs c.args.unit old c.serve.new.self entries_same here after.shows.window.values;
           }) before.apart;
     }
@@ -64,7 +64,7 @@ returns-clause-stay g c =
           (slice_get-get_or pairs c.args.unit c.index-pairs-unit.result c.requires.there) c.serve.ensures.stays;
       sees = each_on (λ (a b : Pair). Sees (seen_at a) (seen_at b)) pairs c.args.unit old c.serve.new.self (λ pair. sees_same (seen_at pair))
           (slice_get-get_or pairs c.args.unit c.index-pairs-unit.result c.requires.there)
-          (serve_sees old c.serve.new.self c.serve.ensures.shows.window c.serve.ensures.sent);
+          (serve_sees old c.serve.new.self c.serve.ensures.shows.window c.serve.ensures.client.sent);
       values = each_on KeepsEntries pairs c.args.unit old c.serve.new.self entries_same
           (slice_get-get_or pairs c.args.unit c.index-pairs-unit.result c.requires.there) c.serve.ensures.shows.window.values;
     }
@@ -79,7 +79,7 @@ pub returns-clause-answered : goal.returns-clause-answered
 returns-clause-answered g c =
     let pairs = c.args.pairs.now in
     each_set (λ (k : ℕ) (other : Pair). IsAnswered c.serve.new.server.records.history.items other) pairs c.args.unit c.serve.new.self
-    (λ k other there apart. c.serve.ensures.elsewhere k other apart (c.requires.serving.pairs_are k other there).server (c.requires.answered k other there))
+    (λ k other there apart. (c.serve.ensures.beside k apart).answered other (c.requires.serving.pairs_are k other there).server (c.requires.answered k other there))
     c.serve.ensures.answered
 
 pub serve-requires-clause-answered : goal.serve-requires-clause-answered
@@ -94,7 +94,7 @@ returns-clause-linked g c =
     let found = slice_get-get_or pairs c.args.unit c.index-pairs-unit.result c.requires.there in
     ok_then c.serve.result _ _
     (λ step are. each_set (IsLinked c.serve.new.server.units.items) pairs c.args.unit c.serve.new.self
-    (λ k other there apart. c.serve.ensures.linked_else k other apart (are k other there)) (step (are c.args.unit old found)))
+    (λ k other there apart. (c.serve.ensures.beside k apart).linked other (are k other there)) (step (are c.args.unit old found)))
     c.serve.ensures.linked
 
 pub returns-clause-waits : goal.returns-clause-waits
@@ -120,14 +120,14 @@ returns-clause-received g c =
     each_set (IsReceived server.units.items server.copies.items server.records.grants.items server.records.history.items) c.args.pairs.now c.args.unit c.serve.new.self
     (λ k other there apart.
     let is = c.requires.serving.pairs_are k other there in
-    c.serve.ensures.received_else k other apart (is.own_unit ∙ is.server) (c.requires.received k other there))
+    (c.serve.ensures.beside k apart).received other (is.own_unit ∙ is.server) (c.requires.received k other there))
     c.serve.ensures.received
 
 pub returns-clause-stays : goal.returns-clause-stays
 returns-clause-stays g c =
     let pairs = c.args.pairs.now in
     frees_set _ pairs c.args.unit (slice_index_or pairs c.args.unit c.index-pairs-unit.result) c.serve.new.self (slice_get-get_or pairs c.args.unit c.index-pairs-unit.result c.requires.there)
-    (λ always. c.serve.ensures.unfreed)
+    (λ always. c.serve.ensures.client.unfreed)
 
 pub returns-clause-clients : goal.returns-clause-clients
 returns-clause-clients g c =
@@ -137,15 +137,15 @@ returns-clause-clients g c =
     (record {
       driver = c.serve.ensures.driver;
       pages = c.serve.ensures.stays.pages;
-      queue = c.serve.ensures.queue;
-      taken = c.serve.ensures.taken;
+      queue = c.serve.ensures.client.queue;
+      taken = c.serve.ensures.client.taken;
       unit = c.serve.ensures.stays.client_unit;
-      sees = serve_sees (slice_index_or pairs c.args.unit c.index-pairs-unit.result) c.serve.new.self c.serve.ensures.shows.window c.serve.ensures.sent;
+      sees = serve_sees (slice_index_or pairs c.args.unit c.index-pairs-unit.result) c.serve.new.self c.serve.ensures.shows.window c.serve.ensures.client.sent;
       own = c.serve.ensures.owner;
       server = c.serve.ensures.stays.server;
       values = c.serve.ensures.values;
-      puts = more_served (slice_index_or pairs c.args.unit c.index-pairs-unit.result) c.serve.new.self c.serve.ensures.sent c.serve.ensures.full c.serve.ensures.served;
-      calm = served_calm (slice_index_or pairs c.args.unit c.index-pairs-unit.result) c.serve.new.self c.serve.ensures.sent c.serve.ensures.kept;
+      puts = more_served (slice_index_or pairs c.args.unit c.index-pairs-unit.result) c.serve.new.self c.serve.ensures.client.sent c.serve.ensures.client.full c.serve.ensures.client.served;
+      calm = served_calm (slice_index_or pairs c.args.unit c.index-pairs-unit.result) c.serve.new.self c.serve.ensures.client.sent c.serve.ensures.client.kept;
     })
 
 pub returns-clause-heard : goal.returns-clause-heard
@@ -156,10 +156,10 @@ returns-clause-heard g c =
     let old = slice_index_or pairs c.args.unit c.index-pairs-unit.result in
     heard_set server.disk.count server'.disk.count server.partition server'.partition server.units.items server'.units.items server.records server'.records server.copies.items server'.copies.items
     pairs c.args.unit old c.serve.new.self (slice_get-get_or pairs c.args.unit c.index-pairs-unit.result c.requires.there) c.serve.ensures.shows c.serve.ensures.own
-    c.serve.ensures.told c.serve.ensures.told_own
+    (λ told tells. (c.serve.ensures.told told tells).all) (λ told tells. (c.serve.ensures.told told tells).own)
     (λ told k other found apart order is.
     let pair = c.requires.serving.pairs_are k other found in
-    c.serve.ensures.told_else told k other apart (pair.own_unit ∙ pair.server) order is)
+    (c.serve.ensures.beside k apart).told told other (pair.own_unit ∙ pair.server) order is)
     c.requires.heard
 
 pub returns-clause-causes : goal.returns-clause-causes
@@ -168,7 +168,7 @@ returns-clause-causes g c = λ told tells.
     let there = slice_get-get_or pairs c.args.unit c.index-pairs-unit.result c.requires.there in
     let before = tells_before told c.args.server.now.copies.items c.serve.new.server.copies.items pairs c.args.unit (slice_index_or pairs c.args.unit c.index-pairs-unit.result) c.serve.new.self there
     c.serve.ensures.shows c.serve.ensures.own tells in
-    (before, c.serve.ensures.causes told (tells c.args.unit c.serve.new.self (get_set_same pairs c.args.unit c.serve.new.self c.requires.there)) (c.requires.heard.all told before).order)
+    (before, (c.serve.ensures.told told (tells c.args.unit c.serve.new.self (get_set_same pairs c.args.unit c.serve.new.self c.requires.there))).causes (c.requires.heard.all told before).order)
 
 pub returns-clause-copies : goal.returns-clause-copies
 returns-clause-copies g c = c.serve.ensures.shows.made
@@ -200,7 +200,7 @@ returns-clause-idles g c =
     c.serve.ensures.idles
 
 pub returns-clause-plainly_else : goal.returns-clause-plainly_else
-returns-clause-plainly_else g c = c.serve.ensures.plainly_else
+returns-clause-plainly_else g c = λ k apart. (c.serve.ensures.beside k apart).books
 
 pub returns-clause-partition : goal.returns-clause-partition
 returns-clause-partition g c = c.serve.ensures.partition

@@ -139,7 +139,7 @@ returns-in-Success-clause-plainly c =
     (puts_ready _ _ _ room (rest.counts.same_session refl) (puts_frees false _ _ partner_failed c.fail.result refl refl c.fail.ensures.success c.fail.ensures.busy c.fail.ensures.refused))
     (some_none _ c.args.pair.now.driver _ c.requires))
     c.freed.ensures.drives)
-    c.freed.ensures.link c.freed.ensures.window c.freed.ensures.told room c.in-Success.ensures.success rest
+    c.freed.ensures.link c.freed.ensures.window c.freed.ensures.told c.freed.ensures.noted room c.in-Success.ensures.success rest
 
 pub returns-in-Parameter-clause-plainly : goal.returns-in-Parameter-clause-plainly
 returns-in-Parameter-clause-plainly c =

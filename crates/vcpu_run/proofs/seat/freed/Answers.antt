@@ -1,4 +1,4 @@
-use Rattle.std.proofs.Common.{◌≡◌, Option, Some, refl, subst, sym}
+use Rattle.std.proofs.Common.{◌≡◌, Option, Some, ap, refl, subst, sym}
 use Rattle.vscsi_client.specs.Turned.{unlinked}
 use Rattle.vcpu_run.specs.Agreed.{OnDrivers}
 use Rattle.vcpu_run.specs.declared.driver.Driver.{Driver}
@@ -17,3 +17,7 @@ returns-clause-drives c = freed_drives c.args.pair.now c.in-Some.driver c.freed.
 pub returns-clause-told : goal.returns-clause-told
 returns-clause-told c =
     subst (λ (o : Option Driver). OnDrivers o (Some c.freed.new.self) (λ a b. b.client ≡ unlinked a.client)) (sym c.in-Some.is) c.freed.ensures.client
+
+pub returns-clause-noted : goal.returns-clause-noted
+returns-clause-noted c =
+    subst (λ (o : Option Driver). OnDrivers o (Some c.freed.new.self) (λ a b. b.answers.items ≡ a.answers.items)) (sym c.in-Some.is) (ap (λ rows. rows.items) c.freed.ensures.answers)

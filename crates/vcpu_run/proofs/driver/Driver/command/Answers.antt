@@ -12,7 +12,7 @@ use Rattle.vcpu_run.proofs.TakingCalls.{submit_taken}
 use Rattle.vcpu_run.proofs.DataSent.{command_sends}
 use Rattle.vcpu_run.proofs.EventsHeard.{sent_none}
 use Rattle.vcpu_run.proofs.Giving.{asks_hear}
-use Rattle.vcpu_run.specs.PlainSteps.{own_by}
+use Rattle.vcpu_run.specs.PlainSteps.{own_by, own_of}
 use Rattle.vcpu_run.proofs.PlainRequests.{command_plainly}
 use Rattle.vcpu_run.proofs.driver.Driver.command.Goals as goal
 
@@ -95,7 +95,7 @@ returns-clause-shut g c = λ verb is.
 pub returns-clause-plainly : goal.returns-clause-plainly
 returns-clause-plainly g c = λ crq_alone own_alone verb p is.
     command_plainly g.C.CrqEnd.is_shared g.O.WindowPort.is_shared c.args.line c.args.op.now
-    (own_by c.args.self.now.client (g.C.CrqEnd.state c.args.crq.now.end) (g.O.WindowPort.state c.args.own.now))
-    (own_by c.submit.new.self (g.C.CrqEnd.state c.submit.new.crq.end) (g.O.WindowPort.state c.submit.new.own))
-    c.submit.result c.sent.result c.sent.ensures.sent c.sent.ensures.why c.sent.ensures.memory c.submit.ensures.refused c.submit.ensures.sent c.submit.ensures.why
+    (own_of c.args.self.now (g.C.CrqEnd.state c.args.crq.now.end) (g.O.WindowPort.state c.args.own.now))
+    (own_by c.submit.new.self c.args.self.now.answers.items (g.C.CrqEnd.state c.submit.new.crq.end) (g.O.WindowPort.state c.submit.new.own))
+    c.submit.result c.sent.result refl c.sent.ensures.sent c.sent.ensures.why c.sent.ensures.memory c.submit.ensures.refused c.submit.ensures.sent c.submit.ensures.why
     c.submit.ensures.crq_rest c.submit.ensures.own_rest crq_alone own_alone verb p is c.requires.fits

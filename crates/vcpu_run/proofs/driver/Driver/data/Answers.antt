@@ -9,7 +9,7 @@ use Rattle.vcpu_run.proofs.CallsLay.{reads_none_laid}
 use Rattle.vcpu_run.proofs.DataGiven.{given_few, told_read, told_stale, told_unknown}
 use Rattle.vcpu_run.proofs.TakingCalls.{tags_still}
 use Rattle.vcpu_run.proofs.TakingData.{data_waits, known_taken, not_unknown, unknown_taken}
-use Rattle.vcpu_run.specs.PlainSteps.{own_by}
+use Rattle.vcpu_run.specs.PlainSteps.{own_by, own_of}
 use Rattle.vcpu_run.proofs.PlainAside.{data_steps}
 use Rattle.vcpu_run.proofs.driver.Driver.data.Goals as goal
 
@@ -69,23 +69,23 @@ returns-in-Err-NoMemory-clause-marks g c = reads_none_laid g.O.WindowPort.is_sha
 
 pub returns-in-Ok-clause-plainly : goal.returns-in-Ok-clause-plainly
 returns-in-Ok-clause-plainly g c = λ alone end p.
-    data_steps g.O.WindowPort.is_shared c.args.tag p (own_by c.args.self.now.client end (g.O.WindowPort.state c.args.own.now))
-    (own_by c.data_of.new.self end (g.O.WindowPort.state c.data_of.new.own)) (steps.Ends (outcomes.Data _ _)) alone refl c.data_of.ensures.same refl c.data_of.ensures.rest
+    data_steps g.O.WindowPort.is_shared c.args.tag p (own_of c.args.self.now end (g.O.WindowPort.state c.args.own.now))
+    (own_by c.data_of.new.self c.args.self.now.answers.items end (g.O.WindowPort.state c.data_of.new.own)) (steps.Ends (outcomes.Data _ _)) alone refl c.data_of.ensures.same refl refl c.data_of.ensures.rest
 
 pub returns-in-Err-Unknown-clause-plainly : goal.returns-in-Err-Unknown-clause-plainly
 returns-in-Err-Unknown-clause-plainly g c = λ alone end p.
-    data_steps g.O.WindowPort.is_shared c.args.tag p (own_by c.args.self.now.client end (g.O.WindowPort.state c.args.own.now))
-    (own_by c.data_of.new.self end (g.O.WindowPort.state c.data_of.new.own)) (steps.Ends outcomes.Unknown) alone refl c.data_of.ensures.same refl c.data_of.ensures.rest
+    data_steps g.O.WindowPort.is_shared c.args.tag p (own_of c.args.self.now end (g.O.WindowPort.state c.args.own.now))
+    (own_by c.data_of.new.self c.args.self.now.answers.items end (g.O.WindowPort.state c.data_of.new.own)) (steps.Ends outcomes.Unknown) alone refl c.data_of.ensures.same refl refl c.data_of.ensures.rest
 
 pub returns-in-Err-Stale-clause-plainly : goal.returns-in-Err-Stale-clause-plainly
 returns-in-Err-Stale-clause-plainly g c = λ alone end p.
-    data_steps g.O.WindowPort.is_shared c.args.tag p (own_by c.args.self.now.client end (g.O.WindowPort.state c.args.own.now))
-    (own_by c.data_of.new.self end (g.O.WindowPort.state c.data_of.new.own)) (steps.Ends (outcomes.Stale _)) alone refl c.data_of.ensures.same refl c.data_of.ensures.rest
+    data_steps g.O.WindowPort.is_shared c.args.tag p (own_of c.args.self.now end (g.O.WindowPort.state c.args.own.now))
+    (own_by c.data_of.new.self c.args.self.now.answers.items end (g.O.WindowPort.state c.data_of.new.own)) (steps.Ends (outcomes.Stale _)) alone refl c.data_of.ensures.same refl refl c.data_of.ensures.rest
 
 pub returns-in-Err-InUse-clause-plainly : goal.returns-in-Err-InUse-clause-plainly
 returns-in-Err-InUse-clause-plainly g c = λ alone end p.
-    data_steps g.O.WindowPort.is_shared c.args.tag p (own_by c.args.self.now.client end (g.O.WindowPort.state c.args.own.now))
-    (own_by c.data_of.new.self end (g.O.WindowPort.state c.data_of.new.own)) (steps.Waits Quiet) alone tt c.data_of.ensures.same refl c.data_of.ensures.rest
+    data_steps g.O.WindowPort.is_shared c.args.tag p (own_of c.args.self.now end (g.O.WindowPort.state c.args.own.now))
+    (own_by c.data_of.new.self c.args.self.now.answers.items end (g.O.WindowPort.state c.data_of.new.own)) (steps.Waits Quiet) alone tt c.data_of.ensures.same refl refl c.data_of.ensures.rest
 
 pub returns-in-Err-NoMemory-clause-plainly : goal.returns-in-Err-NoMemory-clause-plainly
 returns-in-Err-NoMemory-clause-plainly g c = λ alone end p plain granted unit server server' now spares stays talks come. tt

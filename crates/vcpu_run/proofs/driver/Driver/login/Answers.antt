@@ -14,7 +14,7 @@ use Rattle.vcpu_run.proofs.TakingTurns.{tags_runs, turned_taken}
 use Rattle.vcpu_run.proofs.EventsHeard.{turned_hears}
 use Rattle.vcpu_run.specs.DropsShown.{IsFullBy}
 use Rattle.vcpu_run.proofs.DropsShown.{turned_full}
-use Rattle.vcpu_run.specs.PlainSteps.{own_by}
+use Rattle.vcpu_run.specs.PlainSteps.{own_by, own_of}
 use Rattle.vcpu_run.proofs.PlainLogsIn.{logs_err, logs_in_plainly}
 use Rattle.vcpu_run.proofs.driver.Driver.login.Goals as goal
 
@@ -98,11 +98,11 @@ returns-clause-full g c = turned_full (IsFullBy g.C.CrqEnd.is_shared (g.C.CrqEnd
 pub returns-in_err-turn-clause-plainly : goal.returns-in_err-turn-clause-plainly
 returns-in_err-turn-clause-plainly g c = λ crq_alone own_alone.
     let same : c.from_residual.result ≡ Err c.in_err-turn.field-0.0 = search rules in
-    logs_err (own_by c.args.self.now.client (g.C.CrqEnd.state c.args.crq.now.end) (g.O.WindowPort.state c.args.own.now))
-    (own_by c.login_turn.new.self (g.C.CrqEnd.state c.login_turn.new.crq.end) (g.O.WindowPort.state c.login_turn.new.own)) c.from_residual.result c.in_err-turn.field-0.0 same
+    logs_err (own_of c.args.self.now (g.C.CrqEnd.state c.args.crq.now.end) (g.O.WindowPort.state c.args.own.now))
+    (own_by c.login_turn.new.self c.args.self.now.answers.items (g.C.CrqEnd.state c.login_turn.new.crq.end) (g.O.WindowPort.state c.login_turn.new.own)) c.from_residual.result c.in_err-turn.field-0.0 same
 
 pub returns-clause-plainly : goal.returns-clause-plainly
 returns-clause-plainly g c = λ crq_alone own_alone.
     let a = site c.args.self.now.client (ports g.C.CrqEnd.is_shared (g.C.CrqEnd.state c.args.crq.now.end) g.O.WindowPort.is_shared (g.O.WindowPort.state c.args.own.now)) in
     let b = site c.login_turn.new.self (ports g.C.CrqEnd.is_shared (g.C.CrqEnd.state c.login_turn.new.crq.end) g.O.WindowPort.is_shared (g.O.WindowPort.state c.login_turn.new.own)) in
-    logs_in_plainly c.args.line a b c.in_ok-turn.turn c.turned.result crq_alone own_alone c.in_ok-turn.ensures.turned c.turned.ensures
+    logs_in_plainly c.args.line a b c.args.self.now.answers.items c.in_ok-turn.turn c.turned.result crq_alone own_alone c.in_ok-turn.ensures.turned c.turned.ensures

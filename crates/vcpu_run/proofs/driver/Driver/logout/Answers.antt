@@ -11,7 +11,7 @@ use Rattle.vcpu_run.proofs.Giving.{asks_gives, logout_kept}
 use Rattle.vcpu_run.proofs.TakingCalls.{logout_taken}
 use Rattle.vcpu_run.proofs.EventsHeard.{sent_none}
 use Rattle.vcpu_run.proofs.Giving.{asks_hear}
-use Rattle.vcpu_run.specs.PlainSteps.{own_by}
+use Rattle.vcpu_run.specs.PlainSteps.{own_by, own_of}
 use Rattle.vcpu_run.proofs.PlainRequests.{logout_plainly}
 use Rattle.vcpu_run.proofs.driver.Driver.logout.Goals as goal
 
@@ -87,7 +87,7 @@ returns-clause-shut g c =
 pub returns-clause-plainly : goal.returns-clause-plainly
 returns-clause-plainly g c =
     logout_plainly g.C.CrqEnd.is_shared g.O.WindowPort.is_shared c.args.line
-    (own_by c.args.self.now.client (g.C.CrqEnd.state c.args.crq.now.end) (g.O.WindowPort.state c.args.own.now))
-    (own_by c.logout.new.self (g.C.CrqEnd.state c.logout.new.crq.end) (g.O.WindowPort.state c.logout.new.own))
-    c.logout.result c.sent.result c.sent.ensures.sent c.sent.ensures.why c.sent.ensures.memory c.logout.ensures.refused c.logout.ensures.same c.logout.ensures.sent c.logout.ensures.why
+    (own_of c.args.self.now (g.C.CrqEnd.state c.args.crq.now.end) (g.O.WindowPort.state c.args.own.now))
+    (own_by c.logout.new.self c.args.self.now.answers.items (g.C.CrqEnd.state c.logout.new.crq.end) (g.O.WindowPort.state c.logout.new.own))
+    c.logout.result c.sent.result refl c.sent.ensures.sent c.sent.ensures.why c.sent.ensures.memory c.logout.ensures.refused c.logout.ensures.same c.logout.ensures.sent c.logout.ensures.why
     c.logout.ensures.crq_rest c.logout.ensures.own_rest

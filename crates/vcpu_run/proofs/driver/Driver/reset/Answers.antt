@@ -30,7 +30,7 @@ use Rattle.crq_session.specs.Answered.{Frees}
 use Rattle.crq_session.specs.EndState.{OnlyFrees}
 use Rattle.vio_num.specs.declared.hypervisor.Moved.TheVariants.{Moved}
 use Rattle.vcpu_run.specs.EventsPut.{times_freed}
-use Rattle.vcpu_run.specs.PlainSteps.{StepsPlainly, own_by}
+use Rattle.vcpu_run.specs.PlainSteps.{StepsPlainly, own_of}
 use Rattle.vcpu_run.specs.declared.script.Progress.{Progress}
 use Rattle.vcpu_run.proofs.PlainAside.{steps_err}
 use Rattle.vcpu_run.proofs.PlainOpens.{reserves_on}
@@ -180,33 +180,33 @@ returns-in-Parameter-clause-works g c =
 
 pub returns-then-eq-clause-plainly : goal.returns-then-eq-clause-plainly
 returns-then-eq-clause-plainly g c = λ crq_alone own_alone.
-    let old = own_by c.args.self.now.client (g.C.CrqEnd.state c.args.crq.now.end) (g.O.WindowPort.state c.args.own.now) in
-    let new = own_by c.login.new.self.client (g.C.CrqEnd.state c.login.new.crq.end) (g.O.WindowPort.state c.login.new.own) in
+    let old = own_of c.args.self.now (g.C.CrqEnd.state c.args.crq.now.end) (g.O.WindowPort.state c.args.own.now) in
+    let new = own_of c.login.new.self (g.C.CrqEnd.state c.login.new.crq.end) (g.O.WindowPort.state c.login.new.own) in
     let freed : c.args.progress.now ≡ progress.Freed = search rules in
     subst (λ (p : Progress). StepsPlainly verbs.Reset p p old new c.login.result) (sym freed) (renews_steps old new c.login.result (c.login.ensures.plainly crq_alone own_alone))
 
 pub returns-in_err-reserve-clause-plainly : goal.returns-in_err-reserve-clause-plainly
 returns-in_err-reserve-clause-plainly g c = λ crq_alone own_alone.
     let same : c.from_residual.result ≡ Err c.in_err-reserve.field-0.0 = search rules in
-    steps_err verbs.Reset c.args.progress.now c.args.progress.now (own_by c.args.self.now.client (g.C.CrqEnd.state c.args.crq.now.end) (g.O.WindowPort.state c.args.own.now))
-    (own_by c.args.self.now.client (g.C.CrqEnd.state c.reserve.new.self.end) (g.O.WindowPort.state c.args.own.now)) c.from_residual.result c.in_err-reserve.field-0.0 same
+    steps_err verbs.Reset c.args.progress.now c.args.progress.now (own_of c.args.self.now (g.C.CrqEnd.state c.args.crq.now.end) (g.O.WindowPort.state c.args.own.now))
+    (own_of c.args.self.now (g.C.CrqEnd.state c.reserve.new.self.end) (g.O.WindowPort.state c.args.own.now)) c.from_residual.result c.in_err-reserve.field-0.0 same
 
 pub returns-in-Success-clause-plainly : goal.returns-in-Success-clause-plainly
 returns-in-Success-clause-plainly g c = λ crq_alone own_alone.
     let room = g.C.CrqEnd.state c.reserve.new.self.end in
     let end = g.C.CrqEnd.state c.free.new.self.end in
-    resets_plainly c.args.progress.now (own_by c.args.self.now.client (g.C.CrqEnd.state c.args.crq.now.end) (g.O.WindowPort.state c.args.own.now))
-    (own_by c.freed.new.self.client end (g.O.WindowPort.state c.args.own.now)) room Moved (unfreed c.args.progress.now (search rules)) c.in_ok-reserve.ensures.rest
+    resets_plainly c.args.progress.now (own_of c.args.self.now (g.C.CrqEnd.state c.args.crq.now.end) (g.O.WindowPort.state c.args.own.now))
+    (own_of c.freed.new.self end (g.O.WindowPort.state c.args.own.now)) room Moved (unfreed c.args.progress.now (search rules)) c.in_ok-reserve.ensures.rest
     (subst (λ shared. Frees shared room partner_freed end) crq_alone c.in-Success.ensures.success) (subst (λ shared. OnlyFrees shared room end) crq_alone c.free.ensures.rest)
-    c.freed.ensures.client refl
+    c.freed.ensures.client (ap (λ answers. answers.items) c.freed.ensures.answers) refl
 
 pub returns-in-Parameter-clause-plainly : goal.returns-in-Parameter-clause-plainly
 returns-in-Parameter-clause-plainly g c = λ crq_alone own_alone.
     let first = g.C.CrqEnd.state c.args.crq.now.end in
     let room = g.C.CrqEnd.state c.reserve.new.self.end in
     let end = g.C.CrqEnd.state c.free.new.self.end in
-    resets_unregistered c.args.progress.now (own_by c.args.self.now.client first (g.O.WindowPort.state c.args.own.now))
-    (own_by c.login-in-Parameter.new.self.client (g.C.CrqEnd.state c.login-in-Parameter.new.crq.end) (g.O.WindowPort.state c.login-in-Parameter.new.own)) end
+    resets_unregistered c.args.progress.now (own_of c.args.self.now first (g.O.WindowPort.state c.args.own.now))
+    (own_of c.login-in-Parameter.new.self (g.C.CrqEnd.state c.login-in-Parameter.new.crq.end) (g.O.WindowPort.state c.login-in-Parameter.new.own)) end
     c.login-in-Parameter.result (unfreed c.args.progress.now (search rules)) (sym c.in_ok-reserve.ensures.rest.registered ∙ c.free.ensures.parameter.0 c.in-Parameter.is)
     (reserves_on first room end c.in_ok-reserve.ensures.rest c.in-Parameter.ensures.refused) (c.login-in-Parameter.ensures.plainly crq_alone own_alone)
 

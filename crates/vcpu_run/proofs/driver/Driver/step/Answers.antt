@@ -40,7 +40,7 @@ use Rattle.vcpu_run.specs.DataRead.{given_by}
 use Rattle.vcpu_run.specs.DataKept.{range_in}
 use Rattle.vcpu_run.specs.EventsPut.{StepMakes}
 use Rattle.vcpu_run.proofs.Calming.{calm_same}
-use Rattle.vcpu_run.specs.PlainSteps.{own_by}
+use Rattle.vcpu_run.specs.PlainSteps.{own_of}
 use Rattle.vcpu_run.proofs.PlainAside.{fill_plainly, peek_plainly, poke_plainly, steps_as, tce_plainly}
 use Rattle.vcpu_run.proofs.PlainResets.{login_steps}
 use Rattle.vcpu_run.proofs.driver.Driver.step.Goals as goal
@@ -744,42 +744,42 @@ pub returns-in-Some-clause-plainly : goal.returns-in-Some-clause-plainly
 returns-in-Some-clause-plainly g c = λ crq_alone own_alone. c.command.ensures.plainly crq_alone own_alone c.args.line.now.verb c.args.progress.now c.in-Some.ensures.command
 
 pub returns-in-Login-clause-plainly : goal.returns-in-Login-clause-plainly
-returns-in-Login-clause-plainly g c = λ crq_alone own_alone. steps_as c.args.line.now.verb _ c.args.progress.now c.args.progress.now (own_by c.args.self.now.client (g.C.CrqEnd.state c.args.crq.now.end) (g.O.WindowPort.state c.args.own.now)) (own_by c.login.new.self.client (g.C.CrqEnd.state c.login.new.crq.end) (g.O.WindowPort.state c.login.new.own)) c.login.result c.in-Login.is
-    (login_steps c.args.progress.now c.args.progress.now (own_by c.args.self.now.client (g.C.CrqEnd.state c.args.crq.now.end) (g.O.WindowPort.state c.args.own.now)) (own_by c.login.new.self.client (g.C.CrqEnd.state c.login.new.crq.end) (g.O.WindowPort.state c.login.new.own)) c.login.result (c.login.ensures.plainly crq_alone own_alone))
+returns-in-Login-clause-plainly g c = λ crq_alone own_alone. steps_as c.args.line.now.verb _ c.args.progress.now c.args.progress.now (own_of c.args.self.now (g.C.CrqEnd.state c.args.crq.now.end) (g.O.WindowPort.state c.args.own.now)) (own_of c.login.new.self (g.C.CrqEnd.state c.login.new.crq.end) (g.O.WindowPort.state c.login.new.own)) c.login.result c.in-Login.is
+    (login_steps c.args.progress.now c.args.progress.now (own_of c.args.self.now (g.C.CrqEnd.state c.args.crq.now.end) (g.O.WindowPort.state c.args.own.now)) (own_of c.login.new.self (g.C.CrqEnd.state c.login.new.crq.end) (g.O.WindowPort.state c.login.new.own)) c.login.result (c.login.ensures.plainly crq_alone own_alone))
 
 pub returns-in-Reset-clause-plainly : goal.returns-in-Reset-clause-plainly
-returns-in-Reset-clause-plainly g c = λ crq_alone own_alone. steps_as c.args.line.now.verb _ c.args.progress.now c.reset.new.progress (own_by c.args.self.now.client (g.C.CrqEnd.state c.args.crq.now.end) (g.O.WindowPort.state c.args.own.now)) (own_by c.reset.new.self.client (g.C.CrqEnd.state c.reset.new.crq.end) (g.O.WindowPort.state c.reset.new.own)) c.reset.result c.in-Reset.is
+returns-in-Reset-clause-plainly g c = λ crq_alone own_alone. steps_as c.args.line.now.verb _ c.args.progress.now c.reset.new.progress (own_of c.args.self.now (g.C.CrqEnd.state c.args.crq.now.end) (g.O.WindowPort.state c.args.own.now)) (own_of c.reset.new.self (g.C.CrqEnd.state c.reset.new.crq.end) (g.O.WindowPort.state c.reset.new.own)) c.reset.result c.in-Reset.is
     (c.reset.ensures.plainly crq_alone own_alone)
 
 pub returns-in-Logout-clause-plainly : goal.returns-in-Logout-clause-plainly
-returns-in-Logout-clause-plainly g c = λ crq_alone own_alone. steps_as c.args.line.now.verb _ c.args.progress.now c.args.progress.now (own_by c.args.self.now.client (g.C.CrqEnd.state c.args.crq.now.end) (g.O.WindowPort.state c.args.own.now)) (own_by c.logout.new.self.client (g.C.CrqEnd.state c.logout.new.crq.end) (g.O.WindowPort.state c.logout.new.own)) c.logout.result c.in-Logout.is
+returns-in-Logout-clause-plainly g c = λ crq_alone own_alone. steps_as c.args.line.now.verb _ c.args.progress.now c.args.progress.now (own_of c.args.self.now (g.C.CrqEnd.state c.args.crq.now.end) (g.O.WindowPort.state c.args.own.now)) (own_of c.logout.new.self (g.C.CrqEnd.state c.logout.new.crq.end) (g.O.WindowPort.state c.logout.new.own)) c.logout.result c.in-Logout.is
     (c.logout.ensures.plainly crq_alone own_alone c.args.progress.now)
 
 pub returns-in-Task-clause-plainly : goal.returns-in-Task-clause-plainly
-returns-in-Task-clause-plainly g c = λ crq_alone own_alone. steps_as c.args.line.now.verb _ c.args.progress.now c.args.progress.now (own_by c.args.self.now.client (g.C.CrqEnd.state c.args.crq.now.end) (g.O.WindowPort.state c.args.own.now)) (own_by c.task.new.self.client (g.C.CrqEnd.state c.task.new.crq.end) (g.O.WindowPort.state c.task.new.own)) c.task.result c.in-Task.is
+returns-in-Task-clause-plainly g c = λ crq_alone own_alone. steps_as c.args.line.now.verb _ c.args.progress.now c.args.progress.now (own_of c.args.self.now (g.C.CrqEnd.state c.args.crq.now.end) (g.O.WindowPort.state c.args.own.now)) (own_of c.task.new.self (g.C.CrqEnd.state c.task.new.crq.end) (g.O.WindowPort.state c.task.new.own)) c.task.result c.in-Task.is
     (c.task.ensures.plainly crq_alone own_alone c.args.progress.now)
 
 pub returns-in-Take-clause-plainly : goal.returns-in-Take-clause-plainly
-returns-in-Take-clause-plainly g c = λ crq_alone own_alone. steps_as c.args.line.now.verb _ c.args.progress.now c.take_on.new.progress (own_by c.args.self.now.client (g.C.CrqEnd.state c.args.crq.now.end) (g.O.WindowPort.state c.args.own.now)) (own_by c.take_on.new.self.client (g.C.CrqEnd.state c.take_on.new.crq.end) (g.O.WindowPort.state c.take_on.new.own)) c.take_on.result c.in-Take.is
+returns-in-Take-clause-plainly g c = λ crq_alone own_alone. steps_as c.args.line.now.verb _ c.args.progress.now c.take_on.new.progress (own_of c.args.self.now (g.C.CrqEnd.state c.args.crq.now.end) (g.O.WindowPort.state c.args.own.now)) (own_of c.take_on.new.self (g.C.CrqEnd.state c.take_on.new.crq.end) (g.O.WindowPort.state c.take_on.new.own)) c.take_on.result c.in-Take.is
     (c.take_on.ensures.plainly crq_alone own_alone)
 
 pub returns-in-Data-clause-plainly : goal.returns-in-Data-clause-plainly
-returns-in-Data-clause-plainly g c = λ crq_alone own_alone. steps_as c.args.line.now.verb _ c.args.progress.now c.args.progress.now (own_by c.args.self.now.client (g.C.CrqEnd.state c.args.crq.now.end) (g.O.WindowPort.state c.args.own.now)) (own_by c.data.new.self.client (g.C.CrqEnd.state c.args.crq.now.end) (g.O.WindowPort.state c.data.new.own)) c.data.result c.in-Data.is
+returns-in-Data-clause-plainly g c = λ crq_alone own_alone. steps_as c.args.line.now.verb _ c.args.progress.now c.args.progress.now (own_of c.args.self.now (g.C.CrqEnd.state c.args.crq.now.end) (g.O.WindowPort.state c.args.own.now)) (own_of c.data.new.self (g.C.CrqEnd.state c.args.crq.now.end) (g.O.WindowPort.state c.data.new.own)) c.data.result c.in-Data.is
     (c.data.ensures.plainly own_alone (g.C.CrqEnd.state c.args.crq.now.end) c.args.progress.now)
 
 pub returns-in-Fill-clause-plainly : goal.returns-in-Fill-clause-plainly
-returns-in-Fill-clause-plainly g c = λ crq_alone own_alone. steps_as c.args.line.now.verb _ c.args.progress.now c.args.progress.now (own_by c.args.self.now.client (g.C.CrqEnd.state c.args.crq.now.end) (g.O.WindowPort.state c.args.own.now)) (own_by c.args.self.now.client (g.C.CrqEnd.state c.args.crq.now.end) (g.O.WindowPort.state c.fill.new.own)) c.fill.result c.in-Fill.is
-    (fill_plainly g.O.WindowPort.is_shared c.in-Fill.at c.in-Fill.len c.in-Fill.seed c.from-mark.result c.args.progress.now (own_by c.args.self.now.client (g.C.CrqEnd.state c.args.crq.now.end) (g.O.WindowPort.state c.args.own.now)) (own_by c.args.self.now.client (g.C.CrqEnd.state c.args.crq.now.end) (g.O.WindowPort.state c.fill.new.own)) c.fill.result own_alone c.fill.ensures.plain refl refl c.fill.ensures.rest c.fill.ensures.lays c.fill.ensures.answer)
+returns-in-Fill-clause-plainly g c = λ crq_alone own_alone. steps_as c.args.line.now.verb _ c.args.progress.now c.args.progress.now (own_of c.args.self.now (g.C.CrqEnd.state c.args.crq.now.end) (g.O.WindowPort.state c.args.own.now)) (own_of c.args.self.now (g.C.CrqEnd.state c.args.crq.now.end) (g.O.WindowPort.state c.fill.new.own)) c.fill.result c.in-Fill.is
+    (fill_plainly g.O.WindowPort.is_shared c.in-Fill.at c.in-Fill.len c.in-Fill.seed c.from-mark.result c.args.progress.now (own_of c.args.self.now (g.C.CrqEnd.state c.args.crq.now.end) (g.O.WindowPort.state c.args.own.now)) (own_of c.args.self.now (g.C.CrqEnd.state c.args.crq.now.end) (g.O.WindowPort.state c.fill.new.own)) c.fill.result own_alone c.fill.ensures.plain refl refl refl c.fill.ensures.rest c.fill.ensures.lays c.fill.ensures.answer)
 
 pub returns-in-Poke-clause-plainly : goal.returns-in-Poke-clause-plainly
-returns-in-Poke-clause-plainly g c = λ crq_alone own_alone. steps_as c.args.line.now.verb (verbs.Poke c.in-Poke.at c.as_slice.result.now) c.args.progress.now c.args.progress.now (own_by c.args.self.now.client (g.C.CrqEnd.state c.args.crq.now.end) (g.O.WindowPort.state c.args.own.now)) (own_by c.args.self.now.client (g.C.CrqEnd.state c.args.crq.now.end) (g.O.WindowPort.state c.poke.new.own)) c.poke.result (c.in-Poke.is ∙ ap (λ (bytes : List ℕ). verbs.Poke c.in-Poke.at bytes) (sym c.as_slice.ensures))
-    (poke_plainly g.O.WindowPort.is_shared c.in-Poke.at c.from-mark.result c.as_slice.result.now c.args.progress.now (own_by c.args.self.now.client (g.C.CrqEnd.state c.args.crq.now.end) (g.O.WindowPort.state c.args.own.now)) (own_by c.args.self.now.client (g.C.CrqEnd.state c.args.crq.now.end) (g.O.WindowPort.state c.poke.new.own)) c.poke.result own_alone c.poke.ensures.plain refl refl c.poke.ensures.rest c.poke.ensures.lays c.poke.ensures.answer)
+returns-in-Poke-clause-plainly g c = λ crq_alone own_alone. steps_as c.args.line.now.verb (verbs.Poke c.in-Poke.at c.as_slice.result.now) c.args.progress.now c.args.progress.now (own_of c.args.self.now (g.C.CrqEnd.state c.args.crq.now.end) (g.O.WindowPort.state c.args.own.now)) (own_of c.args.self.now (g.C.CrqEnd.state c.args.crq.now.end) (g.O.WindowPort.state c.poke.new.own)) c.poke.result (c.in-Poke.is ∙ ap (λ (bytes : List ℕ). verbs.Poke c.in-Poke.at bytes) (sym c.as_slice.ensures))
+    (poke_plainly g.O.WindowPort.is_shared c.in-Poke.at c.from-mark.result c.as_slice.result.now c.args.progress.now (own_of c.args.self.now (g.C.CrqEnd.state c.args.crq.now.end) (g.O.WindowPort.state c.args.own.now)) (own_of c.args.self.now (g.C.CrqEnd.state c.args.crq.now.end) (g.O.WindowPort.state c.poke.new.own)) c.poke.result own_alone c.poke.ensures.plain refl refl refl c.poke.ensures.rest c.poke.ensures.lays c.poke.ensures.answer)
 
 pub returns-in-Peek-clause-plainly : goal.returns-in-Peek-clause-plainly
-returns-in-Peek-clause-plainly g c = λ crq_alone own_alone. steps_as c.args.line.now.verb _ c.args.progress.now c.args.progress.now (own_by c.args.self.now.client (g.C.CrqEnd.state c.args.crq.now.end) (g.O.WindowPort.state c.args.own.now)) (own_by c.args.self.now.client (g.C.CrqEnd.state c.args.crq.now.end) (g.O.WindowPort.state c.peek.new.own)) c.peek.result c.in-Peek.is
-    (peek_plainly g.O.WindowPort.is_shared c.in-Peek.at c.in-Peek.len c.args.progress.now (own_by c.args.self.now.client (g.C.CrqEnd.state c.args.crq.now.end) (g.O.WindowPort.state c.args.own.now)) (own_by c.args.self.now.client (g.C.CrqEnd.state c.args.crq.now.end) (g.O.WindowPort.state c.peek.new.own)) c.peek.result own_alone c.peek.ensures.plain refl refl c.peek.ensures.rest)
+returns-in-Peek-clause-plainly g c = λ crq_alone own_alone. steps_as c.args.line.now.verb _ c.args.progress.now c.args.progress.now (own_of c.args.self.now (g.C.CrqEnd.state c.args.crq.now.end) (g.O.WindowPort.state c.args.own.now)) (own_of c.args.self.now (g.C.CrqEnd.state c.args.crq.now.end) (g.O.WindowPort.state c.peek.new.own)) c.peek.result c.in-Peek.is
+    (peek_plainly g.O.WindowPort.is_shared c.in-Peek.at c.in-Peek.len c.args.progress.now (own_of c.args.self.now (g.C.CrqEnd.state c.args.crq.now.end) (g.O.WindowPort.state c.args.own.now)) (own_of c.args.self.now (g.C.CrqEnd.state c.args.crq.now.end) (g.O.WindowPort.state c.peek.new.own)) c.peek.result own_alone c.peek.ensures.plain refl refl refl c.peek.ensures.rest)
 
 pub returns-in-Tce-clause-plainly : goal.returns-in-Tce-clause-plainly
-returns-in-Tce-clause-plainly g c = λ crq_alone own_alone. steps_as c.args.line.now.verb _ c.args.progress.now c.args.progress.now (own_by c.args.self.now.client (g.C.CrqEnd.state c.args.crq.now.end) (g.O.WindowPort.state c.args.own.now)) (own_by c.args.self.now.client (g.C.CrqEnd.state c.args.crq.now.end) (g.O.WindowPort.state c.put_tce.new.own)) c.put_tce.result c.in-Tce.is
-    (tce_plainly g.O.WindowPort.is_shared c.in-Tce.entry c.in-Tce.page c.in-Tce.readable c.in-Tce.writable c.args.progress.now (own_by c.args.self.now.client (g.C.CrqEnd.state c.args.crq.now.end) (g.O.WindowPort.state c.args.own.now)) (own_by c.args.self.now.client (g.C.CrqEnd.state c.args.crq.now.end) (g.O.WindowPort.state c.put_tce.new.own)) c.put_tce.result own_alone c.put_tce.ensures.plain refl refl
+returns-in-Tce-clause-plainly g c = λ crq_alone own_alone. steps_as c.args.line.now.verb _ c.args.progress.now c.args.progress.now (own_of c.args.self.now (g.C.CrqEnd.state c.args.crq.now.end) (g.O.WindowPort.state c.args.own.now)) (own_of c.args.self.now (g.C.CrqEnd.state c.args.crq.now.end) (g.O.WindowPort.state c.put_tce.new.own)) c.put_tce.result c.in-Tce.is
+    (tce_plainly g.O.WindowPort.is_shared c.in-Tce.entry c.in-Tce.page c.in-Tce.readable c.in-Tce.writable c.args.progress.now (own_of c.args.self.now (g.C.CrqEnd.state c.args.crq.now.end) (g.O.WindowPort.state c.args.own.now)) (own_of c.args.self.now (g.C.CrqEnd.state c.args.crq.now.end) (g.O.WindowPort.state c.put_tce.new.own)) c.put_tce.result own_alone c.put_tce.ensures.plain refl refl refl
     c.put_tce.ensures.window.place c.put_tce.ensures.marks c.put_tce.ensures.answer)

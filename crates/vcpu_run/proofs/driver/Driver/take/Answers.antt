@@ -19,7 +19,7 @@ use Rattle.vcpu_run.proofs.EventsHeard.{hears_same}
 use Rattle.vcpu_run.proofs.Giving.{loss_hears}
 use Rattle.unit_region.specs.declared.step.Step.TheVariants as steps
 use Rattle.vio_trace.specs.declared.outcome.Outcome.TheVariants as outcomes
-use Rattle.vcpu_run.specs.PlainSteps.{TakesPlainly, own_by}
+use Rattle.vcpu_run.specs.PlainSteps.{TakesPlainly, own_of}
 use Rattle.vcpu_run.specs.declared.taking.Took.TheVariants as tooks
 use Rattle.vcpu_run.proofs.PlainAside.{steps_err}
 use Rattle.vcpu_run.proofs.PlainCounting.{TakesSoFar, another, ends_full, ends_never, ends_none, ends_sooner, none_yet, one_more, waits_none}
@@ -74,8 +74,8 @@ loop-entry-preserved g c =
     let next : TakesOn c.args.taken.now c.match-branch-2.taken c.args.self.now.client c.take_one.new.self.client × (c.match-branch-2.taken < c.args.count) × TakesSo c.args.taken.now c.match-branch-2.taken c.args.self.now.client c.take_one.new.self.client
     × TakesThem c.args.taken.now c.match-branch-2.taken c.args.self.now c.take_one.new.self
     × (g.C.CrqEnd.is_shared ≡ false → g.O.WindowPort.is_shared ≡ false → TakesSoFar c.args.count c.args.taken.now c.match-branch-2.taken (c.loop-entry._entry + 1)
-    (own_by c.args.self.now.client (g.C.CrqEnd.state c.args.crq.now.end) (g.O.WindowPort.state c.args.own.now))
-    (own_by c.take_one.new.self.client (g.C.CrqEnd.state c.take_one.new.crq.end) (g.O.WindowPort.state c.take_one.new.own))) =
+    (own_of c.args.self.now (g.C.CrqEnd.state c.args.crq.now.end) (g.O.WindowPort.state c.args.own.now))
+    (own_of c.take_one.new.self (g.C.CrqEnd.state c.take_one.new.crq.end) (g.O.WindowPort.state c.take_one.new.own))) =
     elim c.match-branch-2.branch [
       | in-Answer+else-taken-count-2 w ↦ (
         subst (λ n. TakesOn c.args.taken.now n c.args.self.now.client c.take_one.new.self.client) (sym w.taken-is)
@@ -92,12 +92,12 @@ loop-entry-preserved g c =
             (omega (arith, w.saturating_add.ensures, c.loop-entry.invariant.less, c.ranges.count.fits))
             (subst (λ (t : Took). TookTaken t c.loop-entry.self c.take_one.new.self) w.in-Answer.is c.in_ok-take_one.ensures.takes)),
         λ crq_alone own_alone.
-            subst (λ (n : ℕ). TakesSoFar c.args.count c.args.taken.now n (c.loop-entry._entry + 1) (own_by c.args.self.now.client (g.C.CrqEnd.state c.args.crq.now.end) (g.O.WindowPort.state c.args.own.now))
-            (own_by c.take_one.new.self.client (g.C.CrqEnd.state c.take_one.new.crq.end) (g.O.WindowPort.state c.take_one.new.own))) (sym (omega (arith, w.taken-is, w.saturating_add.ensures, c.loop-entry.invariant.less, c.ranges.count.fits)))
-            (one_more c.args.count c.args.taken.now c.loop-entry.taken c.loop-entry._entry (own_by c.args.self.now.client (g.C.CrqEnd.state c.args.crq.now.end) (g.O.WindowPort.state c.args.own.now))
-            (own_by c.loop-entry.self.client (g.C.CrqEnd.state c.loop-entry.crq.end) (g.O.WindowPort.state c.loop-entry.own))
-            (own_by c.take_one.new.self.client (g.C.CrqEnd.state c.take_one.new.crq.end) (g.O.WindowPort.state c.take_one.new.own)) c.loop-entry.invariant.less (c.loop-entry.invariant.plainly crq_alone own_alone) (subst (λ (t : Took). TakesPlainly t (own_by c.loop-entry.self.client (g.C.CrqEnd.state c.loop-entry.crq.end) (g.O.WindowPort.state c.loop-entry.own))
-            (own_by c.take_one.new.self.client (g.C.CrqEnd.state c.take_one.new.crq.end) (g.O.WindowPort.state c.take_one.new.own))) w.in-Answer.is (c.in_ok-take_one.ensures.plainly crq_alone own_alone))),
+            subst (λ (n : ℕ). TakesSoFar c.args.count c.args.taken.now n (c.loop-entry._entry + 1) (own_of c.args.self.now (g.C.CrqEnd.state c.args.crq.now.end) (g.O.WindowPort.state c.args.own.now))
+            (own_of c.take_one.new.self (g.C.CrqEnd.state c.take_one.new.crq.end) (g.O.WindowPort.state c.take_one.new.own))) (sym (omega (arith, w.taken-is, w.saturating_add.ensures, c.loop-entry.invariant.less, c.ranges.count.fits)))
+            (one_more c.args.count c.args.taken.now c.loop-entry.taken c.loop-entry._entry (own_of c.args.self.now (g.C.CrqEnd.state c.args.crq.now.end) (g.O.WindowPort.state c.args.own.now))
+            (own_of c.loop-entry.self (g.C.CrqEnd.state c.loop-entry.crq.end) (g.O.WindowPort.state c.loop-entry.own))
+            (own_of c.take_one.new.self (g.C.CrqEnd.state c.take_one.new.crq.end) (g.O.WindowPort.state c.take_one.new.own)) c.loop-entry.invariant.less (c.loop-entry.invariant.plainly crq_alone own_alone) (subst (λ (t : Took). TakesPlainly t (own_of c.loop-entry.self (g.C.CrqEnd.state c.loop-entry.crq.end) (g.O.WindowPort.state c.loop-entry.own))
+            (own_of c.take_one.new.self (g.C.CrqEnd.state c.take_one.new.crq.end) (g.O.WindowPort.state c.take_one.new.own))) w.in-Answer.is (c.in_ok-take_one.ensures.plainly crq_alone own_alone))),
       )
       | in-Other w ↦ (
         subst (λ n. TakesOn c.args.taken.now n c.args.self.now.client c.take_one.new.self.client) (sym w.taken-is)
@@ -111,10 +111,10 @@ loop-entry-preserved g c =
             (them_none c.args.taken.now c.loop-entry.taken c.args.self.now c.loop-entry.self c.take_one.new.self c.loop-entry.invariant.them
             (subst (λ (t : Took). TookTaken t c.loop-entry.self c.take_one.new.self) w.in-Other.is c.in_ok-take_one.ensures.takes)),
         λ crq_alone own_alone.
-            another c.args.count c.args.taken.now c.loop-entry.taken c.loop-entry._entry c.match-branch-2.taken (c.loop-entry._entry + 1) (own_by c.args.self.now.client (g.C.CrqEnd.state c.args.crq.now.end) (g.O.WindowPort.state c.args.own.now))
-            (own_by c.loop-entry.self.client (g.C.CrqEnd.state c.loop-entry.crq.end) (g.O.WindowPort.state c.loop-entry.own))
-            (own_by c.take_one.new.self.client (g.C.CrqEnd.state c.take_one.new.crq.end) (g.O.WindowPort.state c.take_one.new.own)) (c.loop-entry.invariant.plainly crq_alone own_alone) (subst (λ (t : Took). TakesPlainly t (own_by c.loop-entry.self.client (g.C.CrqEnd.state c.loop-entry.crq.end) (g.O.WindowPort.state c.loop-entry.own))
-            (own_by c.take_one.new.self.client (g.C.CrqEnd.state c.take_one.new.crq.end) (g.O.WindowPort.state c.take_one.new.own))) w.in-Other.is (c.in_ok-take_one.ensures.plainly crq_alone own_alone)),
+            another c.args.count c.args.taken.now c.loop-entry.taken c.loop-entry._entry c.match-branch-2.taken (c.loop-entry._entry + 1) (own_of c.args.self.now (g.C.CrqEnd.state c.args.crq.now.end) (g.O.WindowPort.state c.args.own.now))
+            (own_of c.loop-entry.self (g.C.CrqEnd.state c.loop-entry.crq.end) (g.O.WindowPort.state c.loop-entry.own))
+            (own_of c.take_one.new.self (g.C.CrqEnd.state c.take_one.new.crq.end) (g.O.WindowPort.state c.take_one.new.own)) (c.loop-entry.invariant.plainly crq_alone own_alone) (subst (λ (t : Took). TakesPlainly t (own_of c.loop-entry.self (g.C.CrqEnd.state c.loop-entry.crq.end) (g.O.WindowPort.state c.loop-entry.own))
+            (own_of c.take_one.new.self (g.C.CrqEnd.state c.take_one.new.crq.end) (g.O.WindowPort.state c.take_one.new.own))) w.in-Other.is (c.in_ok-take_one.ensures.plainly crq_alone own_alone)),
       )
     ] in
     record {
@@ -281,63 +281,63 @@ loop-entry-init g c = record {
   queue = refl;
   less = omega (arith, c.if-taken-count.false);
   them = λ now agrees. agrees;
-  plainly = λ crq_alone own_alone. none_yet c.args.count c.args.taken.now (own_by c.args.self.now.client (g.C.CrqEnd.state c.args.crq.now.end) (g.O.WindowPort.state c.args.own.now));
+  plainly = λ crq_alone own_alone. none_yet c.args.count c.args.taken.now (own_of c.args.self.now (g.C.CrqEnd.state c.args.crq.now.end) (g.O.WindowPort.state c.args.own.now));
   gives = gives_same c.args.self.now (g.C.CrqEnd.state c.args.crq.now.end);
 }
 
 pub returns-then-taken-count-clause-plainly : goal.returns-then-taken-count-clause-plainly
 returns-then-taken-count-clause-plainly g c = λ crq_alone own_alone p is.
-    ends_full c.args.count c.args.taken.now c.args.taken.now 0 p (stages.Took c.args.taken.now) (own_by c.args.self.now.client (g.C.CrqEnd.state c.args.crq.now.end) (g.O.WindowPort.state c.args.own.now))
-    (own_by c.args.self.now.client (g.C.CrqEnd.state c.args.crq.now.end) (g.O.WindowPort.state c.args.own.now)) is (omega (arith, c.if-taken-count.true)) (none_yet c.args.count c.args.taken.now (own_by c.args.self.now.client (g.C.CrqEnd.state c.args.crq.now.end) (g.O.WindowPort.state c.args.own.now)))
+    ends_full c.args.count c.args.taken.now c.args.taken.now 0 p (stages.Took c.args.taken.now) (own_of c.args.self.now (g.C.CrqEnd.state c.args.crq.now.end) (g.O.WindowPort.state c.args.own.now))
+    (own_of c.args.self.now (g.C.CrqEnd.state c.args.crq.now.end) (g.O.WindowPort.state c.args.own.now)) is (omega (arith, c.if-taken-count.true)) (none_yet c.args.count c.args.taken.now (own_of c.args.self.now (g.C.CrqEnd.state c.args.crq.now.end) (g.O.WindowPort.state c.args.own.now)))
 
 pub returns-then-taken-count-2-clause-plainly : goal.returns-then-taken-count-2-clause-plainly
 returns-then-taken-count-2-clause-plainly g c = λ crq_alone own_alone p is.
     let more : c.saturating_add.result ≡ c.loop-entry.taken + 1 = omega (arith, c.saturating_add.ensures, c.loop-entry.invariant.less, c.ranges.count.fits) in
-    ends_full c.args.count c.args.taken.now c.saturating_add.result (c.loop-entry._entry + 1) p (stages.Took c.saturating_add.result) (own_by c.args.self.now.client (g.C.CrqEnd.state c.args.crq.now.end) (g.O.WindowPort.state c.args.own.now))
-    (own_by c.take_one.new.self.client (g.C.CrqEnd.state c.take_one.new.crq.end) (g.O.WindowPort.state c.take_one.new.own)) is (omega (arith, c.if-taken-count-2.true))
-    (subst (λ (n : ℕ). TakesSoFar c.args.count c.args.taken.now n (c.loop-entry._entry + 1) (own_by c.args.self.now.client (g.C.CrqEnd.state c.args.crq.now.end) (g.O.WindowPort.state c.args.own.now))
-    (own_by c.take_one.new.self.client (g.C.CrqEnd.state c.take_one.new.crq.end) (g.O.WindowPort.state c.take_one.new.own))) (sym more)
-    (one_more c.args.count c.args.taken.now c.loop-entry.taken c.loop-entry._entry (own_by c.args.self.now.client (g.C.CrqEnd.state c.args.crq.now.end) (g.O.WindowPort.state c.args.own.now))
-    (own_by c.loop-entry.self.client (g.C.CrqEnd.state c.loop-entry.crq.end) (g.O.WindowPort.state c.loop-entry.own))
-    (own_by c.take_one.new.self.client (g.C.CrqEnd.state c.take_one.new.crq.end) (g.O.WindowPort.state c.take_one.new.own)) c.loop-entry.invariant.less (c.loop-entry.invariant.plainly crq_alone own_alone) (subst (λ (t : Took). TakesPlainly t (own_by c.loop-entry.self.client (g.C.CrqEnd.state c.loop-entry.crq.end) (g.O.WindowPort.state c.loop-entry.own))
-    (own_by c.take_one.new.self.client (g.C.CrqEnd.state c.take_one.new.crq.end) (g.O.WindowPort.state c.take_one.new.own))) c.in-Answer.is (c.in_ok-take_one.ensures.plainly crq_alone own_alone))))
+    ends_full c.args.count c.args.taken.now c.saturating_add.result (c.loop-entry._entry + 1) p (stages.Took c.saturating_add.result) (own_of c.args.self.now (g.C.CrqEnd.state c.args.crq.now.end) (g.O.WindowPort.state c.args.own.now))
+    (own_of c.take_one.new.self (g.C.CrqEnd.state c.take_one.new.crq.end) (g.O.WindowPort.state c.take_one.new.own)) is (omega (arith, c.if-taken-count-2.true))
+    (subst (λ (n : ℕ). TakesSoFar c.args.count c.args.taken.now n (c.loop-entry._entry + 1) (own_of c.args.self.now (g.C.CrqEnd.state c.args.crq.now.end) (g.O.WindowPort.state c.args.own.now))
+    (own_of c.take_one.new.self (g.C.CrqEnd.state c.take_one.new.crq.end) (g.O.WindowPort.state c.take_one.new.own))) (sym more)
+    (one_more c.args.count c.args.taken.now c.loop-entry.taken c.loop-entry._entry (own_of c.args.self.now (g.C.CrqEnd.state c.args.crq.now.end) (g.O.WindowPort.state c.args.own.now))
+    (own_of c.loop-entry.self (g.C.CrqEnd.state c.loop-entry.crq.end) (g.O.WindowPort.state c.loop-entry.own))
+    (own_of c.take_one.new.self (g.C.CrqEnd.state c.take_one.new.crq.end) (g.O.WindowPort.state c.take_one.new.own)) c.loop-entry.invariant.less (c.loop-entry.invariant.plainly crq_alone own_alone) (subst (λ (t : Took). TakesPlainly t (own_of c.loop-entry.self (g.C.CrqEnd.state c.loop-entry.crq.end) (g.O.WindowPort.state c.loop-entry.own))
+    (own_of c.take_one.new.self (g.C.CrqEnd.state c.take_one.new.crq.end) (g.O.WindowPort.state c.take_one.new.own))) c.in-Answer.is (c.in_ok-take_one.ensures.plainly crq_alone own_alone))))
 
 pub returns-in-Lost-clause-plainly : goal.returns-in-Lost-clause-plainly
 returns-in-Lost-clause-plainly g c = λ crq_alone own_alone p is.
     ends_never c.args.count c.args.taken.now c.loop-entry.taken c.loop-entry._entry p (stages.Took c.loop-entry.taken) tooks.Lost (steps.Ends (outcomes.TookThenLost c.loop-entry.taken))
-    (own_by c.args.self.now.client (g.C.CrqEnd.state c.args.crq.now.end) (g.O.WindowPort.state c.args.own.now))
-    (own_by c.loop-entry.self.client (g.C.CrqEnd.state c.loop-entry.crq.end) (g.O.WindowPort.state c.loop-entry.own))
-    (own_by c.take_one.new.self.client (g.C.CrqEnd.state c.take_one.new.crq.end) (g.O.WindowPort.state c.take_one.new.own)) is (λ granted now at leaves. leaves) (c.loop-entry.invariant.plainly crq_alone own_alone) (subst (λ (t : Took). TakesPlainly t (own_by c.loop-entry.self.client (g.C.CrqEnd.state c.loop-entry.crq.end) (g.O.WindowPort.state c.loop-entry.own))
-    (own_by c.take_one.new.self.client (g.C.CrqEnd.state c.take_one.new.crq.end) (g.O.WindowPort.state c.take_one.new.own))) c.in-Lost.is (c.in_ok-take_one.ensures.plainly crq_alone own_alone))
+    (own_of c.args.self.now (g.C.CrqEnd.state c.args.crq.now.end) (g.O.WindowPort.state c.args.own.now))
+    (own_of c.loop-entry.self (g.C.CrqEnd.state c.loop-entry.crq.end) (g.O.WindowPort.state c.loop-entry.own))
+    (own_of c.take_one.new.self (g.C.CrqEnd.state c.take_one.new.crq.end) (g.O.WindowPort.state c.take_one.new.own)) is (λ granted now at leaves. leaves) (c.loop-entry.invariant.plainly crq_alone own_alone) (subst (λ (t : Took). TakesPlainly t (own_of c.loop-entry.self (g.C.CrqEnd.state c.loop-entry.crq.end) (g.O.WindowPort.state c.loop-entry.own))
+    (own_of c.take_one.new.self (g.C.CrqEnd.state c.take_one.new.crq.end) (g.O.WindowPort.state c.take_one.new.own))) c.in-Lost.is (c.in_ok-take_one.ensures.plainly crq_alone own_alone))
 
 pub returns-in-InUse-clause-plainly : goal.returns-in-InUse-clause-plainly
 returns-in-InUse-clause-plainly g c = λ crq_alone own_alone p is.
     ends_never c.args.count c.args.taken.now c.loop-entry.taken c.loop-entry._entry p (stages.Took c.loop-entry.taken) tooks.InUse (steps.Waits c.moved.result)
-    (own_by c.args.self.now.client (g.C.CrqEnd.state c.args.crq.now.end) (g.O.WindowPort.state c.args.own.now))
-    (own_by c.loop-entry.self.client (g.C.CrqEnd.state c.loop-entry.crq.end) (g.O.WindowPort.state c.loop-entry.own))
-    (own_by c.take_one.new.self.client (g.C.CrqEnd.state c.take_one.new.crq.end) (g.O.WindowPort.state c.take_one.new.own)) is (λ granted now at leaves. leaves) (c.loop-entry.invariant.plainly crq_alone own_alone) (subst (λ (t : Took). TakesPlainly t (own_by c.loop-entry.self.client (g.C.CrqEnd.state c.loop-entry.crq.end) (g.O.WindowPort.state c.loop-entry.own))
-    (own_by c.take_one.new.self.client (g.C.CrqEnd.state c.take_one.new.crq.end) (g.O.WindowPort.state c.take_one.new.own))) c.in-InUse.is (c.in_ok-take_one.ensures.plainly crq_alone own_alone))
+    (own_of c.args.self.now (g.C.CrqEnd.state c.args.crq.now.end) (g.O.WindowPort.state c.args.own.now))
+    (own_of c.loop-entry.self (g.C.CrqEnd.state c.loop-entry.crq.end) (g.O.WindowPort.state c.loop-entry.own))
+    (own_of c.take_one.new.self (g.C.CrqEnd.state c.take_one.new.crq.end) (g.O.WindowPort.state c.take_one.new.own)) is (λ granted now at leaves. leaves) (c.loop-entry.invariant.plainly crq_alone own_alone) (subst (λ (t : Took). TakesPlainly t (own_of c.loop-entry.self (g.C.CrqEnd.state c.loop-entry.crq.end) (g.O.WindowPort.state c.loop-entry.own))
+    (own_of c.take_one.new.self (g.C.CrqEnd.state c.take_one.new.crq.end) (g.O.WindowPort.state c.take_one.new.own))) c.in-InUse.is (c.in_ok-take_one.ensures.plainly crq_alone own_alone))
 
 pub returns-then-is_empty-clause-plainly : goal.returns-then-is_empty-clause-plainly
 returns-then-is_empty-clause-plainly g c = λ crq_alone own_alone p is.
-    ends_none c.args.count c.args.taken.now c.loop-entry.taken c.loop-entry._entry c.outstanding.result.now p (stages.Took c.loop-entry.taken) (own_by c.args.self.now.client (g.C.CrqEnd.state c.args.crq.now.end) (g.O.WindowPort.state c.args.own.now))
-    (own_by c.loop-entry.self.client (g.C.CrqEnd.state c.loop-entry.crq.end) (g.O.WindowPort.state c.loop-entry.own))
-    (own_by c.take_one.new.self.client (g.C.CrqEnd.state c.take_one.new.crq.end) (g.O.WindowPort.state c.take_one.new.own)) is c.loop-entry.invariant.less c.outstanding.ensures.tags (sym c.is_empty.ensures ∙ c.if-is_empty.true) (c.loop-entry.invariant.plainly crq_alone own_alone) (subst (λ (t : Took). TakesPlainly t (own_by c.loop-entry.self.client (g.C.CrqEnd.state c.loop-entry.crq.end) (g.O.WindowPort.state c.loop-entry.own))
-    (own_by c.take_one.new.self.client (g.C.CrqEnd.state c.take_one.new.crq.end) (g.O.WindowPort.state c.take_one.new.own))) c.in-Nothing.is (c.in_ok-take_one.ensures.plainly crq_alone own_alone))
+    ends_none c.args.count c.args.taken.now c.loop-entry.taken c.loop-entry._entry c.outstanding.result.now p (stages.Took c.loop-entry.taken) (own_of c.args.self.now (g.C.CrqEnd.state c.args.crq.now.end) (g.O.WindowPort.state c.args.own.now))
+    (own_of c.loop-entry.self (g.C.CrqEnd.state c.loop-entry.crq.end) (g.O.WindowPort.state c.loop-entry.own))
+    (own_of c.take_one.new.self (g.C.CrqEnd.state c.take_one.new.crq.end) (g.O.WindowPort.state c.take_one.new.own)) is c.loop-entry.invariant.less c.outstanding.ensures.tags (sym c.is_empty.ensures ∙ c.if-is_empty.true) (c.loop-entry.invariant.plainly crq_alone own_alone) (subst (λ (t : Took). TakesPlainly t (own_of c.loop-entry.self (g.C.CrqEnd.state c.loop-entry.crq.end) (g.O.WindowPort.state c.loop-entry.own))
+    (own_of c.take_one.new.self (g.C.CrqEnd.state c.take_one.new.crq.end) (g.O.WindowPort.state c.take_one.new.own))) c.in-Nothing.is (c.in_ok-take_one.ensures.plainly crq_alone own_alone))
 
 pub returns-in-Nothing-clause-plainly : goal.returns-in-Nothing-clause-plainly
 returns-in-Nothing-clause-plainly g c = λ crq_alone own_alone p is.
-    waits_none c.args.count c.args.taken.now c.loop-entry.taken c.loop-entry._entry c.outstanding.result.now p (stages.Took c.loop-entry.taken) c.moved-in-Nothing.result (own_by c.args.self.now.client (g.C.CrqEnd.state c.args.crq.now.end) (g.O.WindowPort.state c.args.own.now))
-    (own_by c.loop-entry.self.client (g.C.CrqEnd.state c.loop-entry.crq.end) (g.O.WindowPort.state c.loop-entry.own))
-    (own_by c.take_one.new.self.client (g.C.CrqEnd.state c.take_one.new.crq.end) (g.O.WindowPort.state c.take_one.new.own)) is refl c.loop-entry.invariant.less c.outstanding.ensures.tags (sym c.is_empty.ensures ∙ c.if-is_empty.false) (c.loop-entry.invariant.plainly crq_alone own_alone) (subst (λ (t : Took). TakesPlainly t (own_by c.loop-entry.self.client (g.C.CrqEnd.state c.loop-entry.crq.end) (g.O.WindowPort.state c.loop-entry.own))
-    (own_by c.take_one.new.self.client (g.C.CrqEnd.state c.take_one.new.crq.end) (g.O.WindowPort.state c.take_one.new.own))) c.in-Nothing.is (c.in_ok-take_one.ensures.plainly crq_alone own_alone))
+    waits_none c.args.count c.args.taken.now c.loop-entry.taken c.loop-entry._entry c.outstanding.result.now p (stages.Took c.loop-entry.taken) c.moved-in-Nothing.result (own_of c.args.self.now (g.C.CrqEnd.state c.args.crq.now.end) (g.O.WindowPort.state c.args.own.now))
+    (own_of c.loop-entry.self (g.C.CrqEnd.state c.loop-entry.crq.end) (g.O.WindowPort.state c.loop-entry.own))
+    (own_of c.take_one.new.self (g.C.CrqEnd.state c.take_one.new.crq.end) (g.O.WindowPort.state c.take_one.new.own)) is refl c.loop-entry.invariant.less c.outstanding.ensures.tags (sym c.is_empty.ensures ∙ c.if-is_empty.false) (c.loop-entry.invariant.plainly crq_alone own_alone) (subst (λ (t : Took). TakesPlainly t (own_of c.loop-entry.self (g.C.CrqEnd.state c.loop-entry.crq.end) (g.O.WindowPort.state c.loop-entry.own))
+    (own_of c.take_one.new.self (g.C.CrqEnd.state c.take_one.new.crq.end) (g.O.WindowPort.state c.take_one.new.own))) c.in-Nothing.is (c.in_ok-take_one.ensures.plainly crq_alone own_alone))
 
 pub returns-clause-plainly : goal.returns-clause-plainly
 returns-clause-plainly g c = λ crq_alone own_alone p is.
-    ends_sooner c.args.count c.args.taken.now c.loop-entry.taken c.loop-entry._entry c.slots-entry-end.result p (stages.Took c.loop-entry.taken) (steps.Waits DidMove) (own_by c.args.self.now.client (g.C.CrqEnd.state c.args.crq.now.end) (g.O.WindowPort.state c.args.own.now))
-    (own_by c.loop-entry.self.client (g.C.CrqEnd.state c.loop-entry.crq.end) (g.O.WindowPort.state c.loop-entry.own)) is c.slots-entry-end.ensures.slots (omega (arith, c.loop-entry-test.false)) (c.loop-entry.invariant.plainly crq_alone own_alone)
+    ends_sooner c.args.count c.args.taken.now c.loop-entry.taken c.loop-entry._entry c.slots-entry-end.result p (stages.Took c.loop-entry.taken) (steps.Waits DidMove) (own_of c.args.self.now (g.C.CrqEnd.state c.args.crq.now.end) (g.O.WindowPort.state c.args.own.now))
+    (own_of c.loop-entry.self (g.C.CrqEnd.state c.loop-entry.crq.end) (g.O.WindowPort.state c.loop-entry.own)) is c.slots-entry-end.ensures.slots (omega (arith, c.loop-entry-test.false)) (c.loop-entry.invariant.plainly crq_alone own_alone)
 
 pub returns-in_err-take_one-clause-plainly : goal.returns-in_err-take_one-clause-plainly
 returns-in_err-take_one-clause-plainly g c =
     let same : c.from_residual.result ≡ Err c.in_err-take_one.field-0.0 = search rules in
-    λ crq_alone own_alone p is. steps_err (verbs.Take c.args.count) p (stages.Took c.loop-entry.taken) (own_by c.args.self.now.client (g.C.CrqEnd.state c.args.crq.now.end) (g.O.WindowPort.state c.args.own.now)) (own_by c.take_one.new.self.client (g.C.CrqEnd.state c.take_one.new.crq.end) (g.O.WindowPort.state c.take_one.new.own)) c.from_residual.result c.in_err-take_one.field-0.0 same
+    λ crq_alone own_alone p is. steps_err (verbs.Take c.args.count) p (stages.Took c.loop-entry.taken) (own_of c.args.self.now (g.C.CrqEnd.state c.args.crq.now.end) (g.O.WindowPort.state c.args.own.now)) (own_of c.take_one.new.self (g.C.CrqEnd.state c.take_one.new.crq.end) (g.O.WindowPort.state c.take_one.new.own)) c.from_residual.result c.in_err-take_one.field-0.0 same

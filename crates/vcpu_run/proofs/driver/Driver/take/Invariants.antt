@@ -5,7 +5,7 @@ use Rattle.vcpu_run.proofs.Credits.{TakesOn}
 use Rattle.vcpu_run.specs.Takings.{Gives}
 use Rattle.vcpu_run.proofs.TakesTold.{TakesSo}
 use Rattle.vcpu_run.proofs.TakingTurns.{TakesThem}
-use Rattle.vcpu_run.specs.PlainSteps.{own_by}
+use Rattle.vcpu_run.specs.PlainSteps.{own_of}
 use Rattle.vcpu_run.proofs.PlainCounting.{TakesSoFar}
 use Rattle.vcpu_run.proofs.driver.Driver.take.Given as goal
 
@@ -21,6 +21,6 @@ invariant-loop-entry g l = record {
   them : TakesThem l.initial.taken l.taken l.initial.self l.self;
   gives : Gives l.initial.self l.self (g.C.CrqEnd.state l.initial.crq.end) (g.C.CrqEnd.state l.crq.end);
   plainly : g.C.CrqEnd.is_shared ≡ false → g.O.WindowPort.is_shared ≡ false → TakesSoFar l.count l.initial.taken l.taken l._entry
-      (own_by l.initial.self.client (g.C.CrqEnd.state l.initial.crq.end) (g.O.WindowPort.state l.initial.own))
-      (own_by l.self.client (g.C.CrqEnd.state l.crq.end) (g.O.WindowPort.state l.own));
+      (own_of l.initial.self (g.C.CrqEnd.state l.initial.crq.end) (g.O.WindowPort.state l.initial.own))
+      (own_of l.self (g.C.CrqEnd.state l.crq.end) (g.O.WindowPort.state l.own));
 }

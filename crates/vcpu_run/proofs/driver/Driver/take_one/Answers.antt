@@ -15,7 +15,7 @@ use Rattle.vcpu_run.proofs.TakeOrder.{takes_in}
 use Rattle.vcpu_run.proofs.TakingTurns.{answer_taken, other_taken, tags_taken_as}
 use Rattle.vcpu_run.specs.EventsHeard.{Hears}
 use Rattle.vcpu_run.proofs.EventsHeard.{takes_hear}
-use Rattle.vcpu_run.specs.PlainSteps.{TakesPlainly, own_by}
+use Rattle.vcpu_run.specs.PlainSteps.{TakesPlainly, own_by, own_of}
 use Rattle.vcpu_run.proofs.PlainEntries.{take_plainly}
 use Rattle.vcpu_run.specs.declared.taking.Took.TheVariants as tooks
 use Rattle.vcpu_run.proofs.driver.Driver.take_one.Goals as goal
@@ -259,38 +259,39 @@ returns-in_err-tag-clause-works g c =
 
 pub returns-in_ok-note-in-Answer-clause-plainly : goal.returns-in_ok-note-in-Answer-clause-plainly
 returns-in_ok-note-in-Answer-clause-plainly g c = λ crq_alone own_alone.
-    subst (λ (s : ClientState). TakesPlainly tooks.Answer (own_by c.args.self.now.client (g.C.CrqEnd.state c.args.crq.now.end) (g.O.WindowPort.state c.args.own.now))
-    (own_by s (g.C.CrqEnd.state c.take_answer.new.crq.end) (g.O.WindowPort.state c.take_answer.new.own))) (sym c.note.ensures.client)
-    (take_plainly g.C.CrqEnd.is_shared g.O.WindowPort.is_shared (own_by c.args.self.now.client (g.C.CrqEnd.state c.args.crq.now.end) (g.O.WindowPort.state c.args.own.now))
-    (own_by c.take_answer.new.self (g.C.CrqEnd.state c.take_answer.new.crq.end) (g.O.WindowPort.state c.take_answer.new.own))
-    c.in_ok-tag.field-0 (takens.Answer c.in-Answer.tag c.in-Answer.rsp) tooks.Answer c.in-Answer.is refl c.in_ok-tag.ensures.taken c.take_answer.ensures.crq_rest c.take_answer.ensures.own_rest crq_alone own_alone)
+    subst (λ (s : ClientState). TakesPlainly tooks.Answer (own_of c.args.self.now (g.C.CrqEnd.state c.args.crq.now.end) (g.O.WindowPort.state c.args.own.now))
+    (own_by s c.note.new.self.answers.items (g.C.CrqEnd.state c.take_answer.new.crq.end) (g.O.WindowPort.state c.take_answer.new.own))) (sym c.note.ensures.client)
+    (take_plainly g.C.CrqEnd.is_shared g.O.WindowPort.is_shared (own_of c.args.self.now (g.C.CrqEnd.state c.args.crq.now.end) (g.O.WindowPort.state c.args.own.now))
+    (own_by c.take_answer.new.self c.note.new.self.answers.items (g.C.CrqEnd.state c.take_answer.new.crq.end) (g.O.WindowPort.state c.take_answer.new.own))
+    c.in_ok-tag.field-0 (takens.Answer c.in-Answer.tag c.in-Answer.rsp) tooks.Answer c.in-Answer.is refl c.in_ok-tag.ensures.taken c.take_answer.ensures.crq_rest c.take_answer.ensures.own_rest crq_alone own_alone
+    c.in_ok-note-in-Answer.ensures.notes)
 
 pub returns-in-Stray-clause-plainly : goal.returns-in-Stray-clause-plainly
 returns-in-Stray-clause-plainly g c = λ crq_alone own_alone.
-    take_plainly g.C.CrqEnd.is_shared g.O.WindowPort.is_shared (own_by c.args.self.now.client (g.C.CrqEnd.state c.args.crq.now.end) (g.O.WindowPort.state c.args.own.now))
-    (own_by c.take_answer.new.self (g.C.CrqEnd.state c.take_answer.new.crq.end) (g.O.WindowPort.state c.take_answer.new.own))
-    c.in_ok-tag.field-0 (takens.Stray c.in-Stray.field-0) tooks.Other c.in-Stray.is refl c.in_ok-tag.ensures.taken c.take_answer.ensures.crq_rest c.take_answer.ensures.own_rest crq_alone own_alone
+    take_plainly g.C.CrqEnd.is_shared g.O.WindowPort.is_shared (own_of c.args.self.now (g.C.CrqEnd.state c.args.crq.now.end) (g.O.WindowPort.state c.args.own.now))
+    (own_by c.take_answer.new.self c.args.self.now.answers.items (g.C.CrqEnd.state c.take_answer.new.crq.end) (g.O.WindowPort.state c.take_answer.new.own))
+    c.in_ok-tag.field-0 (takens.Stray c.in-Stray.field-0) tooks.Other c.in-Stray.is refl c.in_ok-tag.ensures.taken c.take_answer.ensures.crq_rest c.take_answer.ensures.own_rest crq_alone own_alone refl
 
 pub returns-in-Other-clause-plainly : goal.returns-in-Other-clause-plainly
 returns-in-Other-clause-plainly g c = λ crq_alone own_alone.
-    take_plainly g.C.CrqEnd.is_shared g.O.WindowPort.is_shared (own_by c.args.self.now.client (g.C.CrqEnd.state c.args.crq.now.end) (g.O.WindowPort.state c.args.own.now))
-    (own_by c.take_answer.new.self (g.C.CrqEnd.state c.take_answer.new.crq.end) (g.O.WindowPort.state c.take_answer.new.own))
-    c.in_ok-tag.field-0 takens.Other tooks.Other c.in-Other.is refl c.in_ok-tag.ensures.taken c.take_answer.ensures.crq_rest c.take_answer.ensures.own_rest crq_alone own_alone
+    take_plainly g.C.CrqEnd.is_shared g.O.WindowPort.is_shared (own_of c.args.self.now (g.C.CrqEnd.state c.args.crq.now.end) (g.O.WindowPort.state c.args.own.now))
+    (own_by c.take_answer.new.self c.args.self.now.answers.items (g.C.CrqEnd.state c.take_answer.new.crq.end) (g.O.WindowPort.state c.take_answer.new.own))
+    c.in_ok-tag.field-0 takens.Other tooks.Other c.in-Other.is refl c.in_ok-tag.ensures.taken c.take_answer.ensures.crq_rest c.take_answer.ensures.own_rest crq_alone own_alone refl
 
 pub returns-in-Lost-clause-plainly : goal.returns-in-Lost-clause-plainly
 returns-in-Lost-clause-plainly g c = λ crq_alone own_alone.
-    take_plainly g.C.CrqEnd.is_shared g.O.WindowPort.is_shared (own_by c.args.self.now.client (g.C.CrqEnd.state c.args.crq.now.end) (g.O.WindowPort.state c.args.own.now))
-    (own_by c.take_answer.new.self (g.C.CrqEnd.state c.take_answer.new.crq.end) (g.O.WindowPort.state c.take_answer.new.own))
-    c.in_ok-tag.field-0 takens.Lost tooks.Lost c.in-Lost.is refl c.in_ok-tag.ensures.taken c.take_answer.ensures.crq_rest c.take_answer.ensures.own_rest crq_alone own_alone
+    take_plainly g.C.CrqEnd.is_shared g.O.WindowPort.is_shared (own_of c.args.self.now (g.C.CrqEnd.state c.args.crq.now.end) (g.O.WindowPort.state c.args.own.now))
+    (own_by c.take_answer.new.self c.args.self.now.answers.items (g.C.CrqEnd.state c.take_answer.new.crq.end) (g.O.WindowPort.state c.take_answer.new.own))
+    c.in_ok-tag.field-0 takens.Lost tooks.Lost c.in-Lost.is refl c.in_ok-tag.ensures.taken c.take_answer.ensures.crq_rest c.take_answer.ensures.own_rest crq_alone own_alone refl
 
 pub returns-in-Again-clause-plainly : goal.returns-in-Again-clause-plainly
 returns-in-Again-clause-plainly g c = λ crq_alone own_alone.
-    take_plainly g.C.CrqEnd.is_shared g.O.WindowPort.is_shared (own_by c.args.self.now.client (g.C.CrqEnd.state c.args.crq.now.end) (g.O.WindowPort.state c.args.own.now))
-    (own_by c.take_answer.new.self (g.C.CrqEnd.state c.take_answer.new.crq.end) (g.O.WindowPort.state c.take_answer.new.own))
-    c.in_ok-tag.field-0 (takens.Again c.in-Again.page c.in-Again.word) tooks.InUse c.in-Again.is refl c.in_ok-tag.ensures.taken c.take_answer.ensures.crq_rest c.take_answer.ensures.own_rest crq_alone own_alone
+    take_plainly g.C.CrqEnd.is_shared g.O.WindowPort.is_shared (own_of c.args.self.now (g.C.CrqEnd.state c.args.crq.now.end) (g.O.WindowPort.state c.args.own.now))
+    (own_by c.take_answer.new.self c.args.self.now.answers.items (g.C.CrqEnd.state c.take_answer.new.crq.end) (g.O.WindowPort.state c.take_answer.new.own))
+    c.in_ok-tag.field-0 (takens.Again c.in-Again.page c.in-Again.word) tooks.InUse c.in-Again.is refl c.in_ok-tag.ensures.taken c.take_answer.ensures.crq_rest c.take_answer.ensures.own_rest crq_alone own_alone refl
 
 pub returns-in-Empty-clause-plainly : goal.returns-in-Empty-clause-plainly
 returns-in-Empty-clause-plainly g c = λ crq_alone own_alone.
-    take_plainly g.C.CrqEnd.is_shared g.O.WindowPort.is_shared (own_by c.args.self.now.client (g.C.CrqEnd.state c.args.crq.now.end) (g.O.WindowPort.state c.args.own.now))
-    (own_by c.take_answer.new.self (g.C.CrqEnd.state c.take_answer.new.crq.end) (g.O.WindowPort.state c.take_answer.new.own))
-    c.in_ok-tag.field-0 (takens.Empty c.in-Empty.number) tooks.Nothing c.in-Empty.is refl c.in_ok-tag.ensures.taken c.take_answer.ensures.crq_rest c.take_answer.ensures.own_rest crq_alone own_alone
+    take_plainly g.C.CrqEnd.is_shared g.O.WindowPort.is_shared (own_of c.args.self.now (g.C.CrqEnd.state c.args.crq.now.end) (g.O.WindowPort.state c.args.own.now))
+    (own_by c.take_answer.new.self c.args.self.now.answers.items (g.C.CrqEnd.state c.take_answer.new.crq.end) (g.O.WindowPort.state c.take_answer.new.own))
+    c.in_ok-tag.field-0 (takens.Empty c.in-Empty.number) tooks.Nothing c.in-Empty.is refl c.in_ok-tag.ensures.taken c.take_answer.ensures.crq_rest c.take_answer.ensures.own_rest crq_alone own_alone refl

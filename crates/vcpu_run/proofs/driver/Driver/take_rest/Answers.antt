@@ -6,7 +6,7 @@ use Rattle.tce_window.specs.PortState.{PortPlace}
 use Rattle.vscsi_client.specs.declared.TheConstants.{MIN_PAGES}
 use Rattle.vcpu_run.proofs.Working.{works_on, works_same}
 use Rattle.vcpu_run.proofs.Giving.{gives_on, gives_same}
-use Rattle.vcpu_run.specs.PlainSteps.{own_by}
+use Rattle.vcpu_run.specs.PlainSteps.{own_of}
 use Rattle.vcpu_run.proofs.PlainRest.{rests_err, rests_more, rests_none}
 use Rattle.vcpu_run.proofs.driver.Driver.take_rest.Goals as goal
 
@@ -24,9 +24,9 @@ loop-taken-preserved g c = record {
   pages = subst (λ (place : PortPlace). MIN_PAGES ≤ place.size) (sym c.take_one.ensures.works.window.place) c.loop-taken.invariant.pages;
   gives = gives_on c.args.self.now c.loop-taken.self c.take_one.new.self (g.C.CrqEnd.state c.args.crq.now.end) (g.C.CrqEnd.state c.loop-taken.crq.end) (g.C.CrqEnd.state c.take_one.new.crq.end)
       c.loop-taken.invariant.gives c.in_ok-take_one.ensures.gives;
-  plainly = λ crq_alone own_alone. rests_more (own_by c.args.self.now.client (g.C.CrqEnd.state c.args.crq.now.end) (g.O.WindowPort.state c.args.own.now))
-      (own_by c.loop-taken.self.client (g.C.CrqEnd.state c.loop-taken.crq.end) (g.O.WindowPort.state c.loop-taken.own))
-      (own_by c.take_one.new.self.client (g.C.CrqEnd.state c.take_one.new.crq.end) (g.O.WindowPort.state c.take_one.new.own)) _ (c.loop-taken.invariant.plainly crq_alone own_alone) (c.in_ok-take_one.ensures.plainly crq_alone own_alone);
+  plainly = λ crq_alone own_alone. rests_more (own_of c.args.self.now (g.C.CrqEnd.state c.args.crq.now.end) (g.O.WindowPort.state c.args.own.now))
+      (own_of c.loop-taken.self (g.C.CrqEnd.state c.loop-taken.crq.end) (g.O.WindowPort.state c.loop-taken.own))
+      (own_of c.take_one.new.self (g.C.CrqEnd.state c.take_one.new.crq.end) (g.O.WindowPort.state c.take_one.new.own)) _ (c.loop-taken.invariant.plainly crq_alone own_alone) (c.in_ok-take_one.ensures.plainly crq_alone own_alone);
   fresh = λ is. absurd (not_quiet is);
 }
 
@@ -60,27 +60,27 @@ loop-taken-init g c = record {
   queue = refl;
   pages = c.requires;
   gives = gives_same c.args.self.now (g.C.CrqEnd.state c.args.crq.now.end);
-  plainly = λ crq_alone own_alone. rests_none (own_by c.args.self.now.client (g.C.CrqEnd.state c.args.crq.now.end) (g.O.WindowPort.state c.args.own.now));
+  plainly = λ crq_alone own_alone. rests_none (own_of c.args.self.now (g.C.CrqEnd.state c.args.crq.now.end) (g.O.WindowPort.state c.args.own.now));
   fresh = λ is. refl;
 }
 
 pub returns-in_err-take_one-clause-plainly : goal.returns-in_err-take_one-clause-plainly
 returns-in_err-take_one-clause-plainly g c =
     let same : c.from_residual.result ≡ Err c.in_err-take_one.field-0.0 = search rules in
-    λ crq_alone own_alone. rests_err (own_by c.args.self.now.client (g.C.CrqEnd.state c.args.crq.now.end) (g.O.WindowPort.state c.args.own.now)) (own_by c.take_one.new.self.client (g.C.CrqEnd.state c.take_one.new.crq.end) (g.O.WindowPort.state c.take_one.new.own)) c.from_residual.result c.in_err-take_one.field-0.0 same
+    λ crq_alone own_alone. rests_err (own_of c.args.self.now (g.C.CrqEnd.state c.args.crq.now.end) (g.O.WindowPort.state c.args.own.now)) (own_of c.take_one.new.self (g.C.CrqEnd.state c.take_one.new.crq.end) (g.O.WindowPort.state c.take_one.new.own)) c.from_residual.result c.in_err-take_one.field-0.0 same
 
 pub returns-in-Nothing-clause-plainly : goal.returns-in-Nothing-clause-plainly
 returns-in-Nothing-clause-plainly g c = λ crq_alone own_alone.
-    (rests_more (own_by c.args.self.now.client (g.C.CrqEnd.state c.args.crq.now.end) (g.O.WindowPort.state c.args.own.now))
-    (own_by c.loop-taken.self.client (g.C.CrqEnd.state c.loop-taken.crq.end) (g.O.WindowPort.state c.loop-taken.own))
-    (own_by c.take_one.new.self.client (g.C.CrqEnd.state c.take_one.new.crq.end) (g.O.WindowPort.state c.take_one.new.own)) _ (c.loop-taken.invariant.plainly crq_alone own_alone)
+    (rests_more (own_of c.args.self.now (g.C.CrqEnd.state c.args.crq.now.end) (g.O.WindowPort.state c.args.own.now))
+    (own_of c.loop-taken.self (g.C.CrqEnd.state c.loop-taken.crq.end) (g.O.WindowPort.state c.loop-taken.own))
+    (own_of c.take_one.new.self (g.C.CrqEnd.state c.take_one.new.crq.end) (g.O.WindowPort.state c.take_one.new.own)) _ (c.loop-taken.invariant.plainly crq_alone own_alone)
     (c.in_ok-take_one.ensures.plainly crq_alone own_alone)).leaves
 
 pub returns-in-InUse-clause-plainly : goal.returns-in-InUse-clause-plainly
 returns-in-InUse-clause-plainly g c = λ crq_alone own_alone.
-    (rests_more (own_by c.args.self.now.client (g.C.CrqEnd.state c.args.crq.now.end) (g.O.WindowPort.state c.args.own.now))
-    (own_by c.loop-taken.self.client (g.C.CrqEnd.state c.loop-taken.crq.end) (g.O.WindowPort.state c.loop-taken.own))
-    (own_by c.take_one.new.self.client (g.C.CrqEnd.state c.take_one.new.crq.end) (g.O.WindowPort.state c.take_one.new.own)) _ (c.loop-taken.invariant.plainly crq_alone own_alone)
+    (rests_more (own_of c.args.self.now (g.C.CrqEnd.state c.args.crq.now.end) (g.O.WindowPort.state c.args.own.now))
+    (own_of c.loop-taken.self (g.C.CrqEnd.state c.loop-taken.crq.end) (g.O.WindowPort.state c.loop-taken.own))
+    (own_of c.take_one.new.self (g.C.CrqEnd.state c.take_one.new.crq.end) (g.O.WindowPort.state c.take_one.new.own)) _ (c.loop-taken.invariant.plainly crq_alone own_alone)
     (c.in_ok-take_one.ensures.plainly crq_alone own_alone)).leaves
 
 pub returns-clause-plainly : goal.returns-clause-plainly

@@ -1,7 +1,7 @@
 use Rattle.std.proofs.Common.{◌≡◌, ◌≤◌, None, false}
 use Rattle.vio_num.specs.declared.hypervisor.Moved.TheVariants.{Quiet}
 use Rattle.vscsi_client.specs.declared.TheConstants.{MIN_PAGES}
-use Rattle.vcpu_run.specs.PlainSteps.{own_by}
+use Rattle.vcpu_run.specs.PlainSteps.{own_of}
 use Rattle.vcpu_run.specs.Takings.{Gives}
 use Rattle.vcpu_run.specs.Works.{Works}
 use Rattle.vcpu_run.proofs.PlainRest.{RestsSoFar}
@@ -14,7 +14,7 @@ invariant-loop-taken g l = record {
   queue : (g.C.CrqEnd.state l.crq.end).registered ≡ (g.C.CrqEnd.state l.initial.crq.end).registered;
   pages : MIN_PAGES ≤ (g.O.WindowPort.state l.own).place.size;
   gives : Gives l.initial.self l.self (g.C.CrqEnd.state l.initial.crq.end) (g.C.CrqEnd.state l.crq.end);
-  plainly : g.C.CrqEnd.is_shared ≡ false → g.O.WindowPort.is_shared ≡ false → RestsSoFar (own_by l.initial.self.client (g.C.CrqEnd.state l.initial.crq.end) (g.O.WindowPort.state l.initial.own))
-      (own_by l.self.client (g.C.CrqEnd.state l.crq.end) (g.O.WindowPort.state l.own));
+  plainly : g.C.CrqEnd.is_shared ≡ false → g.O.WindowPort.is_shared ≡ false → RestsSoFar (own_of l.initial.self (g.C.CrqEnd.state l.initial.crq.end) (g.O.WindowPort.state l.initial.own))
+      (own_of l.self (g.C.CrqEnd.state l.crq.end) (g.O.WindowPort.state l.own));
   fresh : l.moved ≡ Quiet → g.C.CrqEnd.state l.crq.end ≡ g.C.CrqEnd.state l.initial.crq.end;
 }

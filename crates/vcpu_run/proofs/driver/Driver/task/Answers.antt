@@ -11,7 +11,7 @@ use Rattle.vcpu_run.proofs.Giving.{asks_gives, task_kept}
 use Rattle.vcpu_run.proofs.TakingCalls.{task_taken}
 use Rattle.vcpu_run.proofs.EventsHeard.{sent_none}
 use Rattle.vcpu_run.proofs.Giving.{asks_hear}
-use Rattle.vcpu_run.specs.PlainSteps.{own_by}
+use Rattle.vcpu_run.specs.PlainSteps.{own_by, own_of}
 use Rattle.vcpu_run.proofs.PlainRequests.{task_plainly}
 use Rattle.vcpu_run.proofs.driver.Driver.task.Goals as goal
 
@@ -87,7 +87,7 @@ returns-clause-shut g c =
 pub returns-clause-plainly : goal.returns-clause-plainly
 returns-clause-plainly g c =
     task_plainly g.C.CrqEnd.is_shared g.O.WindowPort.is_shared c.args.line c.args.function c.args.tag
-    (own_by c.args.self.now.client (g.C.CrqEnd.state c.args.crq.now.end) (g.O.WindowPort.state c.args.own.now))
-    (own_by c.task.new.self (g.C.CrqEnd.state c.task.new.crq.end) (g.O.WindowPort.state c.task.new.own))
-    c.task.result c.sent.result c.sent.ensures.sent c.sent.ensures.why c.sent.ensures.memory c.task.ensures.refused c.task.ensures.same c.task.ensures.sent c.task.ensures.why
+    (own_of c.args.self.now (g.C.CrqEnd.state c.args.crq.now.end) (g.O.WindowPort.state c.args.own.now))
+    (own_by c.task.new.self c.args.self.now.answers.items (g.C.CrqEnd.state c.task.new.crq.end) (g.O.WindowPort.state c.task.new.own))
+    c.task.result c.sent.result refl c.sent.ensures.sent c.sent.ensures.why c.sent.ensures.memory c.task.ensures.refused c.task.ensures.same c.task.ensures.sent c.task.ensures.why
     c.task.ensures.crq_rest c.task.ensures.own_rest

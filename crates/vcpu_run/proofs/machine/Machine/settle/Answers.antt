@@ -21,7 +21,7 @@ use Rattle.vcpu_run.proofs.Lasting.{lent, plan_lasts}
 use Rattle.vcpu_run.specs.PortWords.{PortsTell}
 use Rattle.vcpu_run.specs.PortsRest.{AreTakenTo, PortsEnd}
 use Rattle.vcpu_run.specs.Heard.{AreHeard}
-use Rattle.vcpu_run.proofs.Causings.{caused_told}
+use Rattle.vcpu_run.proofs.Causings.{caused_told, form_told}
 use Rattle.vcpu_run.specs.PlainPairs.{books_of}
 use Rattle.vcpu_run.specs.PlainRuns.{ArePlain}
 use Rattle.vcpu_run.proofs.PlainTold.{plain_same}
@@ -294,3 +294,27 @@ returns-clause-plainly g c =
     (λ kept. plain_same granted server'.partition server'.units.items server'.records.grants.items c.finish-image.result.grants.items
     server'.records.history.items c.finish-image.result.history.items new list new_scripts list_scripts lines rows pairs scripts (kept granted before))
     c.run-run.ensures.plainly))
+
+pub returns-clause-formed : goal.returns-clause-formed
+returns-clause-formed g c =
+    let old = c.args.self.pairs in
+    let new = c.run-run.new.pairs in
+    let old_scripts = c.args.self.scripts in
+    let new_scripts = c.run-run.new.scripts in
+    let server' = c.run-run.new.server in
+    let size : old.len ≡ length old.items = search rules in
+    let size_scripts : old_scripts.len ≡ length old_scripts.items = search rules in
+    let stay : AllStay old.items new = rw (← c.deref_mut.ensures.value) c.run-run.ensures.stay in
+    let run : AllRun old_scripts.items new_scripts = rw (← c.deref_mut-2.ensures.value) c.run-run.ensures.run in
+    let pairs : take old.len (new ++ drop (length new) old.items) ≡ new = lent old.len old.items new size stay.count in
+    let scripts : take old_scripts.len (new_scripts ++ drop (length new_scripts) old_scripts.items) ≡ new_scripts =
+    lent old_scripts.len old_scripts.items new_scripts size_scripts run.count in
+    let history : c.finish-image.result.history.items ≡ server'.records.history.items = rw c.finish-image.ensures.history refl in
+    let copies : c.finish-image.result.copies.items ≡ server'.copies.items = rw c.finish-image.ensures.copies refl in
+    form_told c.trace_of-trace.result server'.copies.items c.finish-image.result.copies.items new (take old.len (new ++ drop (length new) old.items)) c.finish-image.result.history.items
+    server'.disk.count c.args.self.server.disk.count server'.partition server'.units.items server'.records
+    (λ partitions. IsOfPlan partitions old.items old_scripts.items c.args.self.lan.seats)
+    (λ partitions. IsOfPlan partitions (take old.len (new ++ drop (length new) old.items)) (take old_scripts.len (new_scripts ++ drop (length new_scripts) old_scripts.items)) c.run-run.new.lan.seats)
+    (λ partitions of_plan. rw (pairs, scripts) (plan_lasts partitions old.items new old_scripts.items new_scripts c.args.self.lan.seats c.run-run.new.lan.seats stay run c.run-run.ensures.lan of_plan))
+    history copies pairs c.run-run.ensures.count
+    c.run-run.ensures.heard c.trace_of-trace.ensures.serves c.trace_of-trace.ensures.shown

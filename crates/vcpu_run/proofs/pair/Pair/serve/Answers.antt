@@ -1,6 +1,5 @@
 use Rattle.vio_num.specs.declared.hypervisor.Moved.TheVariants.{Quiet}
 use Rattle.vcpu_run.specs.Links.{IsLinked, ServerWaits, link_state}
-use Rattle.vcpu_run.specs.Freed.{FreesNoneAt, IsNotFreed, NotFreed}
 use Rattle.vcpu_run.proofs.Waiting.{agrees_like, agrees_other, serve_frees, serve_full, serve_queue, serve_sent, serve_taken, serve_kept, serve_waits}
 use Rattle.vcpu_run.proofs.Resting.{ok_both}
 use Rattle.vcpu_run.proofs.Crediting.{on_ok}
@@ -8,10 +7,9 @@ use Rattle.std.proofs.Common.{rules, ◌≡◌, ◌≢◌, Bool, List, [], ◌�
 use Rattle.std.proofs.lemmas.List.Elements.{All-weaker}
 use Rattle.vio_num.specs.declared.names.UnitId.{UnitId}
 use Rattle.block_server.specs.Advances.{IsOwnCopy}
-use Rattle.block_server.specs.Causes.{Told}
 use Rattle.block_server.specs.Moves.{data_copies}
 use Rattle.block_server.proofs.RunRests.{others_none}
-use Rattle.vcpu_run.specs.Heard.{AllGoBy, UnitGoesBy, TellsPair}
+use Rattle.vcpu_run.specs.Heard.{AllGoBy, UnitGoesBy}
 use Rattle.vcpu_run.proofs.HeardTurns.{tells_turn, told_elsewhere, told_served}
 use Rattle.crq_session.specs.EndState.{EndPlace, EndState}
 use Rattle.crq_session.specs.declared.link.PlainLink.{PlainLink}
@@ -27,6 +25,7 @@ use Rattle.vcpu_run.specs.Answered.{AreBegun, IsAnswered}
 use Rattle.tce_window.specs.PlainPort.{known_of}
 use Rattle.tce_window.specs.PortState.{PortPlace}
 use Rattle.vcpu_run.specs.Named.{HasWindow}
+use Rattle.vcpu_run.specs.PairServed.{KeepsClient}
 use Rattle.vcpu_run.specs.Pairs.{IsPair}
 use Rattle.vcpu_run.proofs.PairNames.{copies_beside, has_stays, names_beside}
 use Rattle.vcpu_run.proofs.Answering.{answered_elsewhere, answered_served}
@@ -39,9 +38,7 @@ use Rattle.vcpu_run.proofs.LastServed.{line_own, turn_last}
 use Rattle.vcpu_run.proofs.Losing.{behind_back, sees_back, sees_lent}
 use Rattle.vcpu_run.proofs.Receiving.{received_elsewhere, received_served}
 use Rattle.vcpu_run.proofs.Keeping.{served}
-use Rattle.vcpu_run.specs.ShutShown.{StaysServed}
 use Rattle.vcpu_run.proofs.ShutKept.{begun_back, served_link}
-use Rattle.vcpu_run.specs.DropsShown.{KeepsFull}
 use Rattle.tce_window.specs.Window.{strokes_at}
 use Rattle.vcpu_run.proofs.ClientsServed.{none_owned}
 use Rattle.vcpu_run.specs.Machines.{server_id}
@@ -49,6 +46,7 @@ use Rattle.vcpu_run.specs.PlainPairs.{ServesPlainly, books_of}
 use Rattle.vcpu_run.proofs.Elsewhere.{ok_then}
 use Rattle.vcpu_run.proofs.PlainIdles.{idle_ok, ids_stay}
 use Rattle.vcpu_run.proofs.PlainPaired.{TurnsOn, idles_pair, served_pair, spares_unit, turns_ok}
+use Rattle.vcpu_run.proofs.PlainUnserved.{served_away}
 use Rattle.vcpu_run.proofs.pair.Pair.serve.Goals as goal
 
 pub returns-clause-pair : goal.returns-clause-pair
@@ -64,24 +62,6 @@ returns-clause-pair g c =
     goes.own_grows goes.client_grows c.turn.ensures.ready
     (λ event kept. c.turn.ensures.event event (ap (λ (b : Bool). (side_of link b).kept) first ∙ kept))
     c.turn.ensures.copies c.turn.ensures.own_named (c.turn.ensures.named refl) c.requires.pair)
-
-pub returns-clause-others : goal.returns-clause-others
-returns-clause-others g c = λ k other distinct apart is.
-    let old = c.args.self.now in
-    let new : Pair = record { server = old.server; link = old.link; own = c.turn.new.own; window = c.turn.new.client; driver = old.driver } in
-    let own : new.own.unit ≡ old.own.unit = ap (λ (place : PortPlace). place.unit) c.turn.ensures.goes.own_place in
-    let window : new.window.unit ≡ old.window.unit = ap (λ (place : PortPlace). place.unit) c.turn.ensures.goes.client_place in
-    let apart_now : (unit : UnitId) → HasWindow unit new → HasWindow unit other → ⊥ = λ unit has. apart unit (has_stays unit old new own window has) in
-    record {
-      server = is.server;
-      own_unit = is.own_unit;
-      ready = is.ready;
-      event = is.event;
-      copies = copies_beside new other c.args.server.now.copies.items c.turn.new.self.copies.items apart_now is.own_unit c.turn.ensures.copies is.copies;
-      driver = is.driver;
-      names = names_beside new other c.args.server.now.copies.items c.turn.new.self.copies.items apart_now c.turn.ensures.copies is.names;
-      absent = is.absent;
-    }
 
 pub returns-clause-answered : goal.returns-clause-answered
 returns-clause-answered g c =
@@ -101,19 +81,8 @@ returns-clause-answered g c =
     subst (λ (l : PlainLink). IsAnswered history' (record { server = old.server; link = l; own = c.turn.new.own; window = c.turn.new.client; driver = old.driver })) link_is
     (answered_served old.own.unit old new history history' c.requires.pair.own_unit refl more (subst AreBegun after c.turn.new.crq.puts.begun) c.requires.answered)
 
-pub returns-clause-elsewhere : goal.returns-clause-elsewhere
-returns-clause-elsewhere g c = λ k other apart server.
-    answered_elsewhere c.args.server.now.partition c.args.unit k other c.args.server.now.records.history.items c.turn.new.self.records.history.items
-    (λ same. apart (sym same)) server
-    (subst (λ (u : UnitId). ∥ OnlyRowsOf u c.args.server.now.records.history.items c.turn.new.self.records.history.items ∥₁)
-    (c.requires.pair.own_unit ∙ c.requires.pair.server) c.turn.ensures.others)
-
 pub returns-clause-disk : goal.returns-clause-disk
 returns-clause-disk g c = record { serves = c.turn.ensures.disk; tells = c.turn.ensures.tells }
-
-pub returns-clause-linked_else : goal.returns-clause-linked_else
-returns-clause-linked_else g c = λ k other apart is.
-    record { agrees = agrees_other _ _ k _ (c.turn.ensures.others_stay k apart) is.agrees; shut = is.shut }
 
 pub returns-clause-linked : goal.returns-clause-linked
 returns-clause-linked g c =
@@ -193,109 +162,6 @@ returns-clause-received g c =
     ))))
     c.requires.received)
 
-pub returns-clause-received_else : goal.returns-clause-received_else
-returns-clause-received_else g c = λ k other apart own.
-    let server = c.args.server.now in
-    let server' = c.turn.new.self in
-    received_elsewhere server.units.items server'.units.items k c.args.self.now.own.unit other (known_of c.turn.new.own) (known_of c.turn.new.client) server.copies.items server'.copies.items
-    server.records.grants.items server'.records.grants.items server.records.history.items server'.records.history.items
-    (λ e. apart (sym (ap (λ (u : UnitId). u.unit) (sym (c.requires.pair.own_unit ∙ c.requires.pair.server) ∙ (e ∙ own)))))
-    (c.turn.ensures.others_stay k apart) (ap (λ (place : PortPlace). place.unit) c.turn.ensures.goes.own_place) c.turn.ensures.copies
-    c.turn.ensures.lines c.turn.ensures.others
-
-pub returns-clause-unfreed : goal.returns-clause-unfreed
-returns-clause-unfreed g c =
-    let old = c.args.self.now in
-    let link = c.turn.new.crq.end.link.now in
-    let lent = c.side.result.link.now in
-    let link_is : link ≡ c.self-1.given.0 = search rules in
-    let before : (side_of lent false) ≡ (side_of old.link false) = ap (λ (l : PlainLink). side_of l false) c.side.ensures.link in
-    let was_kept : IsNotFreed old → IsNotFreed (record { server = old.server; link = lent; own = old.own; window = old.window; driver = old.driver }) =
-    subst (λ (side : PlainSide). NotFreed side.queue.session side.registered → NotFreed (side_of lent false).queue.session (side_of lent false).registered) before (λ kept. kept) in
-    subst (λ (l : PlainLink). FreesNoneAt old (record { server = old.server; link = l; own = c.turn.new.own; window = c.turn.new.client; driver = old.driver })) link_is
-    (λ kept.
-    serve_frees c.side.result.first c.turn.new.crq.end.first (c.side.result.link.ghost_name ∷ []) (c.turn.new.crq.end.link.ghost_name ∷ [])
-    (record { server = old.server; link = lent; own = old.own; window = old.window; driver = old.driver })
-    (record { server = old.server; link = link; own = c.turn.new.own; window = c.turn.new.client; driver = old.driver }) c.side.ensures.first c.turn.ensures.goes.queue_place
-    (c.turn.ensures.partner refl) (was_kept kept))
-
-pub returns-clause-queue : goal.returns-clause-queue
-returns-clause-queue g c =
-    let old = c.args.self.now in
-    let link = c.turn.new.crq.end.link.now in
-    let lent = c.side.result.link.now in
-    let link_is : link ≡ c.self-1.given.0 = search rules in
-    let before : (side_of lent false) ≡ (side_of old.link false) = ap (λ (l : PlainLink). side_of l false) c.side.ensures.link in
-    subst (λ (l : PlainLink). (side_of l false).registered ≡ (side_of old.link false).registered) link_is
-    (serve_queue c.side.result.first c.turn.new.crq.end.first (c.side.result.link.ghost_name ∷ []) (c.turn.new.crq.end.link.ghost_name ∷ [])
-    (record { server = old.server; link = lent; own = old.own; window = old.window; driver = old.driver })
-    (record { server = old.server; link = link; own = c.turn.new.own; window = c.turn.new.client; driver = old.driver }) c.side.ensures.first c.turn.ensures.goes.queue_place
-    ∙ ap (λ (side : PlainSide). side.registered) before)
-
-pub returns-clause-sent : goal.returns-clause-sent
-returns-clause-sent g c =
-    let old = c.args.self.now in
-    let link = c.turn.new.crq.end.link.now in
-    let lent = c.side.result.link.now in
-    let link_is : link ≡ c.self-1.given.0 = search rules in
-    let before : (side_of lent true) ≡ (side_of old.link true) = ap (λ (l : PlainLink). side_of l true) c.side.ensures.link in
-    subst (λ (l : PlainLink). (side_of l true).queue.sent ≡ (side_of old.link true).queue.sent) link_is
-    (serve_sent c.side.result.first c.turn.new.crq.end.first (c.side.result.link.ghost_name ∷ []) (c.turn.new.crq.end.link.ghost_name ∷ [])
-    (record { server = old.server; link = lent; own = old.own; window = old.window; driver = old.driver })
-    (record { server = old.server; link = link; own = c.turn.new.own; window = c.turn.new.client; driver = old.driver }) c.side.ensures.first c.turn.ensures.goes.queue_place
-    ∙ ap (λ (side : PlainSide). side.queue.sent) before)
-
-pub returns-clause-full : goal.returns-clause-full
-returns-clause-full g c =
-    let old = c.args.self.now in
-    let link = c.turn.new.crq.end.link.now in
-    let lent = c.side.result.link.now in
-    let link_is : link ≡ c.self-1.given.0 = search rules in
-    let now : PlainLink → Pair = λ l. record { server = old.server; link = l; own = c.turn.new.own; window = c.turn.new.client; driver = old.driver } in
-    let was : PlainLink → Pair = λ l. record { server = old.server; link = l; own = old.own; window = old.window; driver = old.driver } in
-    subst (λ (l : PlainLink). KeepsFull old (now l)) link_is
-    (subst (λ (l : PlainLink). KeepsFull (was l) (now link)) c.side.ensures.link
-    (serve_full c.side.result.first c.turn.new.crq.end.first (c.side.result.link.ghost_name ∷ []) (c.turn.new.crq.end.link.ghost_name ∷ []) (was lent) (now link)
-    c.side.ensures.first c.turn.ensures.goes.queue_place))
-
-pub returns-clause-served : goal.returns-clause-served
-returns-clause-served g c =
-    let link = c.turn.new.crq.end.link.now in
-    let lent = c.side.result.link.now in
-    let goes = c.turn.ensures.goes in
-    let first : c.turn.new.crq.end.first ≡ true = ap (λ (place : EndPlace). place.first) goes.queue_place ∙ c.side.ensures.first in
-    let link_is : link ≡ c.self-1.given.0 = search rules in
-    subst (λ (l : PlainLink). StaysServed c.args.self.now.link l) link_is
-    (subst (λ (l : PlainLink). StaysServed l link) c.side.ensures.link
-    (served_link c.side.result.first c.turn.new.crq.end.first (c.side.result.link.ghost_name ∷ []) (c.turn.new.crq.end.link.ghost_name ∷ []) lent link
-    c.side.ensures.first first c.turn.new.crq.served goes.put goes.session goes.opens))
-
-pub returns-clause-taken : goal.returns-clause-taken
-returns-clause-taken g c =
-    let old = c.args.self.now in
-    let link = c.turn.new.crq.end.link.now in
-    let lent = c.side.result.link.now in
-    let link_is : link ≡ c.self-1.given.0 = search rules in
-    let before : (side_of lent false) ≡ (side_of old.link false) = ap (λ (l : PlainLink). side_of l false) c.side.ensures.link in
-    subst (λ (l : PlainLink). (side_of l false).queue.taken ≡ (side_of old.link false).queue.taken) link_is
-    (serve_taken c.side.result.first c.turn.new.crq.end.first (c.side.result.link.ghost_name ∷ []) (c.turn.new.crq.end.link.ghost_name ∷ [])
-    (record { server = old.server; link = lent; own = old.own; window = old.window; driver = old.driver })
-    (record { server = old.server; link = link; own = c.turn.new.own; window = c.turn.new.client; driver = old.driver }) c.side.ensures.first c.turn.ensures.goes.queue_place
-    ∙ ap (λ (side : PlainSide). side.queue.taken) before)
-
-pub returns-clause-kept : goal.returns-clause-kept
-returns-clause-kept g c =
-    let old = c.args.self.now in
-    let link = c.turn.new.crq.end.link.now in
-    let lent = c.side.result.link.now in
-    let link_is : link ≡ c.self-1.given.0 = search rules in
-    let before : (side_of lent false) ≡ (side_of old.link false) = ap (λ (l : PlainLink). side_of l false) c.side.ensures.link in
-    subst (λ (l : PlainLink). (side_of l false).kept ≡ (side_of old.link false).kept) link_is
-    (serve_kept c.side.result.first c.turn.new.crq.end.first (c.side.result.link.ghost_name ∷ []) (c.turn.new.crq.end.link.ghost_name ∷ [])
-    (record { server = old.server; link = lent; own = old.own; window = old.window; driver = old.driver })
-    (record { server = old.server; link = link; own = c.turn.new.own; window = c.turn.new.client; driver = old.driver }) c.side.ensures.first c.turn.ensures.goes.queue_place
-    ∙ ap (λ (side : PlainSide). side.kept) before)
-
 pub returns-clause-shows : goal.returns-clause-shows
 returns-clause-shows g c =
     let goes = c.turn.ensures.goes in
@@ -311,24 +177,16 @@ pub returns-clause-own : goal.returns-clause-own
 returns-clause-own g c = ap (λ (place : PortPlace). place.unit) c.turn.ensures.goes.own_place
 
 pub returns-clause-told : goal.returns-clause-told
-returns-clause-told g c = λ told tells is.
-    let old = c.args.self.now in
-    let goes = c.turn.ensures.goes in
-    let new : Pair = record { server = old.server; link = old.link; own = c.turn.new.own; window = c.turn.new.client; driver = old.driver } in
-    let all = tells_turn told c.args.server.now.copies.items c.turn.new.self.copies.items old new
-    (ap (λ (place : PortPlace). place.size) goes.client_place) (ap (λ (place : PortPlace). place.unit) goes.own_place) tells in
-    record { order = c.turn.ensures.order told all is.order; written = c.turn.ensures.written told all is.order is.written }
-
-pub returns-clause-told_own : goal.returns-clause-told_own
-returns-clause-told_own g c =
+returns-clause-told g c = λ told tells.
     let old = c.args.self.now in
     let server = c.args.server.now in
     let server' = c.turn.new.self in
     let goes = c.turn.ensures.goes in
     let link = c.turn.new.crq.end.link.now in
-    let new : Pair = record { server = old.server; link = link; own = c.turn.new.own; window = c.turn.new.client; driver = old.driver } in
-    let name : new.own.unit ≡ old.own.unit = ap (λ (place : PortPlace). place.unit) goes.own_place in
-    let pages : length new.window.pages ≡ length old.window.pages = ap (λ (place : PortPlace). place.size) goes.client_place in
+    let now : PlainLink → Pair = λ l. record { server = old.server; link = l; own = c.turn.new.own; window = c.turn.new.client; driver = old.driver } in
+    let name : c.turn.new.own.unit ≡ old.own.unit = ap (λ (place : PortPlace). place.unit) goes.own_place in
+    let pages : length c.turn.new.client.pages ≡ length old.window.pages = ap (λ (place : PortPlace). place.size) goes.client_place in
+    let news = tells_turn told server.copies.items server'.copies.items old (now link) pages name tells in
     let first : c.turn.new.crq.end.first ≡ true = ap (λ (place : EndPlace). place.first) goes.queue_place ∙ c.side.ensures.first in
     let before : side_of c.side.result.link.now c.side.result.first ≡ side_of old.link true =
     ap (λ (b : Bool). side_of c.side.result.link.now b) c.side.ensures.first ∙ ap (λ (l : PlainLink). side_of l true) c.side.ensures.link in
@@ -337,46 +195,27 @@ returns-clause-told_own g c =
     ap (λ (b : Bool). (partner_of c.side.result.link.now b).queue.sent) c.side.ensures.first ∙ ap (λ (l : PlainLink). (partner_of l true).queue.sent) c.side.ensures.link in
     let sent_after : (partner_of link c.turn.new.crq.end.first).queue.sent ≡ (side_of link false).queue.sent = ap (λ (b : Bool). (partner_of link b).queue.sent) first in
     let link_is : link ≡ c.self-1.given.0 = search rules in
-    subst (λ (l : PlainLink). (told : Told → Bool) → TellsPair told server'.copies.items (record { server = old.server; link = l; own = c.turn.new.own; window = c.turn.new.client; driver = old.driver })
-    → AllGoBy told server.disk.count server.partition server.units.items server.records → UnitGoesBy told server.units.items server.records server.copies.items c.args.unit old
-    → UnitGoesBy told server'.units.items server'.records server'.copies.items c.args.unit (record { server = old.server; link = l; own = c.turn.new.own; window = c.turn.new.client; driver = old.driver })) link_is
-    (λ told tells all is.
-    let news = tells_turn told server.copies.items server'.copies.items old new pages name tells in
-    let agrees = agrees_like server.units.items c.args.unit _ _ (ap (λ (side : PlainSide). side.registered) before) c.requires.received.agrees in
-    told_served told server.units.items server'.units.items server.records server'.records server.copies.items server'.copies.items c.args.unit old new (state_of c.side.result) (state_of c.turn.new.crq.end)
-    (ap (λ (side : PlainSide). side.queue.session) before) (ap (λ (side : PlainSide). side.queue.taken) before)
-    (ap (λ (side : PlainSide). side.queue.session) after) (ap (λ (side : PlainSide). side.queue.taken) after) name
-    sent_before sent_after goes.taken c.turn.ensures.lines
-    (c.turn.ensures.runs told news all.order) (c.turn.ensures.explains told news all.order [])
-    (c.turn.ensures.logins told news all.order [])
-    (λ closed heard.
-    closed_so told server.units.items server'.units.items c.args.unit old.own.unit (state_of c.side.result) (state_of c.turn.new.crq.end) goes.queue_place agrees (c.turn.ensures.agrees agrees) c.turn.new.crq.behind
-    c.turn.new.crq.gone closed heard)
-    (hears_lent c.side.result.first [] (c.side.result.link.ghost_name ∷ []) old.link c.side.result.link.now c.side.ensures.first c.side.ensures.link)
-    (hears_back c.turn.new.crq.end.first [] (c.turn.new.crq.end.link.ghost_name ∷ []) link first) is)
-
-pub returns-clause-told_else : goal.returns-clause-told_else
-returns-clause-told_else g c = λ told k other apart own order is.
-    let server = c.args.server.now in
-    let server' = c.turn.new.self in
-    let more = c.turn.ensures.copies in
-    let other_unit : c.args.self.now.own.unit ≢ other.own.unit = λ e. apart (sym (ap (λ (u : UnitId). u.unit) (sym (c.requires.pair.own_unit ∙ c.requires.pair.server) ∙ (e ∙ own)))) in
-    let by : c.turn.new.own.unit ≡ c.args.self.now.own.unit = ap (λ (place : PortPlace). place.unit) c.turn.ensures.goes.own_place in
-    told_elsewhere told server.disk.count server.partition server.units.items server'.units.items server.records server'.records server.copies.items server'.copies.items k
-    c.args.self.now.own.unit other other_unit own (c.turn.ensures.others_stay k apart)
-    (ap (data_copies other.own.unit) more.made
-    ∙ others_none other.own.unit server.copies.items more.more
-    (All-weaker (IsOwnCopy (known_of c.turn.new.own) (known_of c.turn.new.client)) (λ copy. copy.name.who ≢ other.own.unit)
-    (λ copy is e. other_unit (sym by ∙ sym is.who ∙ e)) more.more more.lawful)) c.turn.ensures.lines c.turn.ensures.others order is
-
-pub returns-clause-causes : goal.returns-clause-causes
-returns-clause-causes g c = λ told tells order.
-    let old = c.args.self.now in
-    let goes = c.turn.ensures.goes in
-    let new : Pair = record { server = old.server; link = old.link; own = c.turn.new.own; window = c.turn.new.client; driver = old.driver } in
-    c.turn.ensures.causes told
-    (tells_turn told c.args.server.now.copies.items c.turn.new.self.copies.items old new
-    (ap (λ (place : PortPlace). place.size) goes.client_place) (ap (λ (place : PortPlace). place.unit) goes.own_place) tells) order
+    record {
+      all = λ is.
+          let by = c.turn.ensures.by_told told news is.order in
+          record { order = by.order; written = by.written is.written };
+      causes = λ order. (c.turn.ensures.by_told told news order).causes;
+      own = subst (λ (l : PlainLink). AllGoBy told server.disk.count server.partition server.units.items server.records → UnitGoesBy told server.units.items server.records server.copies.items c.args.unit old
+          → UnitGoesBy told server'.units.items server'.records server'.copies.items c.args.unit (now l)) link_is
+          (λ all is.
+          let by = c.turn.ensures.by_told told news all.order in
+          let agrees = agrees_like server.units.items c.args.unit _ _ (ap (λ (side : PlainSide). side.registered) before) c.requires.received.agrees in
+          told_served told server.units.items server'.units.items server.records server'.records server.copies.items server'.copies.items c.args.unit old (now link) (state_of c.side.result) (state_of c.turn.new.crq.end)
+          (ap (λ (side : PlainSide). side.queue.session) before) (ap (λ (side : PlainSide). side.queue.taken) before)
+          (ap (λ (side : PlainSide). side.queue.session) after) (ap (λ (side : PlainSide). side.queue.taken) after) name
+          sent_before sent_after goes.taken c.turn.ensures.lines
+          by.runs (by.explains []) (by.logins [])
+          (λ closed heard.
+          closed_so told server.units.items server'.units.items c.args.unit old.own.unit (state_of c.side.result) (state_of c.turn.new.crq.end) goes.queue_place agrees (c.turn.ensures.agrees agrees) c.turn.new.crq.behind
+          c.turn.new.crq.gone closed heard)
+          (hears_lent c.side.result.first [] (c.side.result.link.ghost_name ∷ []) old.link c.side.result.link.now c.side.ensures.first c.side.ensures.link)
+          (hears_back c.turn.new.crq.end.first [] (c.turn.new.crq.end.link.ghost_name ∷ []) link first) is);
+    }
 
 pub returns-clause-values : goal.returns-clause-values
 returns-clause-values g c = λ i e. c.turn.ensures.values e i
@@ -403,18 +242,24 @@ returns-clause-plainly g c =
     ap (λ (b : Bool). end_of lent c.side.result.link.now b) c.side.ensures.first ∙ ap (λ (l : PlainLink). end_of lent l true) c.side.ensures.link in
     let after : state_of c.turn.new.crq.end ≡ end_of back link true = ap (λ (b : Bool). end_of back link b) first in
     let turns = turns_ok c.turn.result name books books' unit (state_of c.side.result) (state_of c.turn.new.crq.end) (known_of old.window) (known_of c.turn.new.client)
-    c.turn.ensures.talks c.turn.ensures.places c.turn.ensures.leaves c.turn.ensures.rows c.turn.ensures.opens
+    (λ words u at calm. (c.turn.ensures.if_ready words u at calm).talks) (λ words u at calm. (c.turn.ensures.if_ready words u at calm).places)
+    (λ words u at calm. (c.turn.ensures.if_ready words u at calm).leaves) (λ words u at calm. (c.turn.ensures.if_ready words u at calm).rows) c.turn.ensures.opens
     (ids_stay _ _ _ _ server.partition server'.partition server.units.items server'.units.items server.records server'.records c.turn.ensures.partition server.serving server'.serving unit)
     goes.queue_place (c.turn.ensures.partner refl) goes.put c.turn.new.crq.behind.low goes.client_place in
     let link_is : link ≡ c.self-1.given.0 = search rules in
     subst (λ (l : PlainLink). OnOk c.turn.result (ServesPlainly server.partition books books' unit old
     (record { server = old.server; link = l; own = c.turn.new.own; window = c.turn.new.client; driver = old.driver }))) link_is
     (ok_then c.turn.result _ _
-    (λ on granted told is. served_pair granted told server.partition unit _ name books books' lent back old
-    (record { server = old.server; link = link; own = c.turn.new.own; window = c.turn.new.client; driver = old.driver }) refl
-    (subst (λ (id : UnitId). ∥ LinesMore id (grant_of server.units.items unit) books.lines books'.lines ∥₁) (c.requires.pair.own_unit ∙ c.requires.pair.server) c.turn.ensures.lines)
-    (subst (λ (end : EndState). TurnsOn name books books' unit end (end_of back link true) (known_of old.window) (known_of c.turn.new.client)) before
-    (subst (λ (end : EndState). TurnsOn name books books' unit (state_of c.side.result) end (known_of old.window) (known_of c.turn.new.client)) after on)) is)
+    (λ on granted told is.
+    let turned = subst (λ (end : EndState). TurnsOn name books books' unit end (end_of back link true) (known_of old.window) (known_of c.turn.new.client)) before
+    (subst (λ (end : EndState). TurnsOn name books books' unit (state_of c.side.result) end (known_of old.window) (known_of c.turn.new.client)) after on) in (
+      served_pair granted told server.partition unit _ name books books' lent back old
+          (record { server = old.server; link = link; own = c.turn.new.own; window = c.turn.new.client; driver = old.driver }) (c.requires.pair.own_unit ∙ c.requires.pair.server) refl
+          (subst (λ (id : UnitId). ∥ LinesMore id (grant_of server.units.items unit) books.lines books'.lines ∥₁) (c.requires.pair.own_unit ∙ c.requires.pair.server) c.turn.ensures.lines)
+          turned is,
+      served_away granted told server.partition unit name books books' lent back old
+          (record { server = old.server; link = link; own = c.turn.new.own; window = c.turn.new.client; driver = old.driver }) turned is,
+    ))
     turns)
 
 pub returns-clause-idles : goal.returns-clause-idles
@@ -435,7 +280,8 @@ returns-clause-idles g c =
     ap (λ (b : Bool). end_of lent c.side.result.link.now b) c.side.ensures.first ∙ ap (λ (l : PlainLink). end_of lent l true) c.side.ensures.link in
     let after : state_of c.turn.new.crq.end ≡ end_of back link true = ap (λ (b : Bool). end_of back link b) first in
     let turns = turns_ok c.turn.result name books books' unit (state_of c.side.result) (state_of c.turn.new.crq.end) (known_of old.window) (known_of c.turn.new.client)
-    c.turn.ensures.talks c.turn.ensures.places c.turn.ensures.leaves c.turn.ensures.rows c.turn.ensures.opens
+    (λ words u at calm. (c.turn.ensures.if_ready words u at calm).talks) (λ words u at calm. (c.turn.ensures.if_ready words u at calm).places)
+    (λ words u at calm. (c.turn.ensures.if_ready words u at calm).leaves) (λ words u at calm. (c.turn.ensures.if_ready words u at calm).rows) c.turn.ensures.opens
     (ids_stay _ _ _ _ server.partition server'.partition server.units.items server'.units.items server.records server'.records c.turn.ensures.partition server.serving server'.serving unit)
     goes.queue_place (c.turn.ensures.partner refl) goes.put c.turn.new.crq.behind.low goes.client_place in
     idle_ok c.turn.result (λ moved. moved ≡ Quiet) _ _ _ _
@@ -447,11 +293,74 @@ returns-clause-idles g c =
     way is)
     turns c.turn.ensures.quiet c.turn.ensures.way
 
-pub returns-clause-plainly_else : goal.returns-clause-plainly_else
-returns-clause-plainly_else g c = λ k apart.
+pub returns-clause-client : goal.returns-clause-client
+returns-clause-client g c =
+    let old = c.args.self.now in
+    let link = c.turn.new.crq.end.link.now in
+    let lent = c.side.result.link.now in
+    let goes = c.turn.ensures.goes in
+    let at = c.side.result.first in
+    let at' = c.turn.new.crq.end.first in
+    let given = c.side.result.link.ghost_name ∷ [] in
+    let back = c.turn.new.crq.end.link.ghost_name ∷ [] in
+    let first : at' ≡ true = ap (λ (place : EndPlace). place.first) goes.queue_place ∙ c.side.ensures.first in
+    let was : PlainLink → Pair = λ l. record { server = old.server; link = l; own = old.own; window = old.window; driver = old.driver } in
+    let now : PlainLink → Pair = λ l. record { server = old.server; link = l; own = c.turn.new.own; window = c.turn.new.client; driver = old.driver } in
+    let link_is : link ≡ c.self-1.given.0 = search rules in
+    subst (λ (l : PlainLink). KeepsClient old (now l)) link_is
+    (subst (λ (l : PlainLink). KeepsClient (was l) (now link)) c.side.ensures.link
+    (record {
+      queue = serve_queue at at' given back (was lent) (now link) c.side.ensures.first goes.queue_place;
+      taken = serve_taken at at' given back (was lent) (now link) c.side.ensures.first goes.queue_place;
+      kept = serve_kept at at' given back (was lent) (now link) c.side.ensures.first goes.queue_place;
+      unfreed = serve_frees at at' given back (was lent) (now link) c.side.ensures.first goes.queue_place (c.turn.ensures.partner refl);
+      sent = serve_sent at at' given back (was lent) (now link) c.side.ensures.first goes.queue_place;
+      full = serve_full at at' given back (was lent) (now link) c.side.ensures.first goes.queue_place;
+      served = served_link at at' given back lent link c.side.ensures.first first c.turn.new.crq.served goes.put goes.session goes.opens;
+    }))
+
+pub returns-clause-beside : goal.returns-clause-beside
+returns-clause-beside g c = λ k apart.
+    let old = c.args.self.now in
     let server = c.args.server.now in
     let server' = c.turn.new.self in
-    let own : c.args.self.now.own.unit ≡ server_id server.partition c.args.unit = c.requires.pair.own_unit ∙ c.requires.pair.server in
-    spares_unit server.partition k _ (books_of server.units.items server.records.grants.items server.records.history.items)
-    (books_of server'.units.items server'.records.grants.items server'.records.history.items)
-    c.args.self.now.own.unit (λ is. apart (sym (ap (λ (u : UnitId). u.unit) (sym own ∙ is)))) (c.turn.ensures.others_stay k apart) c.turn.ensures.lines c.turn.ensures.others
+    let new : Pair = record { server = old.server; link = old.link; own = c.turn.new.own; window = c.turn.new.client; driver = old.driver } in
+    let more = c.turn.ensures.copies in
+    let stays = c.turn.ensures.others_stay k apart in
+    let own : new.own.unit ≡ old.own.unit = ap (λ (place : PortPlace). place.unit) c.turn.ensures.goes.own_place in
+    let window : new.window.unit ≡ old.window.unit = ap (λ (place : PortPlace). place.unit) c.turn.ensures.goes.client_place in
+    let name : old.own.unit ≡ server_id server.partition c.args.unit = c.requires.pair.own_unit ∙ c.requires.pair.server in
+    let elsewhere : old.own.unit ≢ server_id server.partition k = λ is. apart (sym (ap (λ (u : UnitId). u.unit) (sym name ∙ is))) in
+    record {
+      unit = stays;
+      books = spares_unit server.partition k _ (books_of server.units.items server.records.grants.items server.records.history.items)
+          (books_of server'.units.items server'.records.grants.items server'.records.history.items)
+          old.own.unit elsewhere stays c.turn.ensures.lines c.turn.ensures.others;
+      pair = λ other distinct is.
+          let apart_now : (unit : UnitId) → HasWindow unit new → HasWindow unit other → ⊥ = λ unit has. distinct unit (has_stays unit old new own window has) in
+          record {
+            server = is.server;
+            own_unit = is.own_unit;
+            ready = is.ready;
+            event = is.event;
+            copies = copies_beside new other server.copies.items server'.copies.items apart_now is.own_unit more is.copies;
+            driver = is.driver;
+            names = names_beside new other server.copies.items server'.copies.items apart_now more is.names;
+            absent = is.absent;
+          };
+      linked = λ other is. record { agrees = agrees_other _ _ k _ stays is.agrees; shut = is.shut };
+      answered = λ other id. answered_elsewhere server.partition c.args.unit k other server.records.history.items server'.records.history.items
+          (λ same. apart (sym same)) id
+          (subst (λ (u : UnitId). ∥ OnlyRowsOf u server.records.history.items server'.records.history.items ∥₁) name c.turn.ensures.others);
+      received = λ other id. received_elsewhere server.units.items server'.units.items k old.own.unit other (known_of c.turn.new.own) (known_of c.turn.new.client) server.copies.items server'.copies.items
+          server.records.grants.items server'.records.grants.items server.records.history.items server'.records.history.items
+          (λ e. elsewhere (e ∙ id)) stays own more c.turn.ensures.lines c.turn.ensures.others;
+      told = λ told other id order is.
+          let other_unit : old.own.unit ≢ other.own.unit = λ e. elsewhere (e ∙ id) in
+          told_elsewhere told server.disk.count server.partition server.units.items server'.units.items server.records server'.records server.copies.items server'.copies.items k
+          old.own.unit other other_unit id stays
+          (ap (data_copies other.own.unit) more.made
+          ∙ others_none other.own.unit server.copies.items more.more
+          (All-weaker (IsOwnCopy (known_of c.turn.new.own) (known_of c.turn.new.client)) (λ copy. copy.name.who ≢ other.own.unit)
+          (λ copy of e. other_unit (sym own ∙ sym of.who ∙ e)) more.more more.lawful)) c.turn.ensures.lines c.turn.ensures.others order is;
+    }

@@ -51,4 +51,4 @@ returns-clause-opens c =
       driver = Some driver.field-0;
     } in
     opened_new pair driver.field-0 seat.unit c.args.server seat.pages c.args.queue seat.queue c.in_ok-open_link.ensures (omega (arith, c.requires.queue)) (omega (arith, c.requires.seat.queue))
-    c.in_ok-open-2.ensures (omega (arith, c.requires.seat.pages)) (omega (arith, c.requires.seat.pages)) driver.ensures.unit driver.ensures.client
+    c.in_ok-open-2.ensures (omega (arith, c.requires.seat.pages)) (omega (arith, c.requires.seat.pages)) driver.ensures.unit driver.ensures.client driver.ensures.answers
