@@ -1,5 +1,5 @@
 -- What the answer to the oldest request does: it is written over it, and its entry is put, kept, or found its queue closed.
-use Rattle.std.proofs.Common.{◌≡◌, ◌⊎◌, inl, inr, ◌++◌, ◌+◌, ℕ, Bool, false, cond, List, [], ◌∷◌, Option, Some, None, drop, append-nil, refl, sym, ◌∙◌, ap, subst}
+use Rattle.std.proofs.Common.{◌≡◌, ◌⊎◌, inl, inr, ◌++◌, ◌+◌, ◌&&◌, ◌||◌, ℕ, Bool, true, false, cond, List, [], ◌∷◌, Option, Some, None, drop, append-nil, refl, sym, ◌∙◌, ap, subst}
 use Rattle.vio_num.specs.Entry.{is_srp_entry}
 use Rattle.vio_num.specs.declared.entry.Entry.{Entry}
 use Rattle.vio_num.specs.declared.history.Grant.{Grant}
@@ -7,16 +7,16 @@ use Rattle.vio_num.specs.declared.history.Grant.TheVariants.{Lapsed}
 use Rattle.vio_num.specs.declared.history.Lapse.{Lapse}
 use Rattle.vio_num.specs.declared.history.Served.{Served}
 use Rattle.vio_num.specs.declared.names.UnitId.{UnitId}
-use Rattle.crq_session.specs.EndState.{EndState}
+use Rattle.crq_session.specs.EndState.{EndState, OnlySends}
 use Rattle.tce_window.specs.PortState.{PortPlace, PortState}
 use Rattle.block_server.specs.Advances.{Advances}
 use Rattle.block_server.specs.Bearing.{BearsIn, IsAnswerPart}
 use Rattle.block_server.specs.Copied.{own_name}
-use Rattle.block_server.specs.Doings.{DoesOne, DoesTurn, Doing, DropsAll, IsAtRest, IsFree, KeepsEntry, KeepsNoAnswer, LosesEntry, PutsEntry, SettlesLines, StepsAside, WritesAnswer, doing, entry_for}
+use Rattle.block_server.specs.Doings.{DoesOne, DoesTurn, Doing, DropsAll, IsAtRest, IsFree, KeepsEntry, KeepsNoAnswer, LosesEntry, PutsEntry, SettlesLines, SendsKept, StaysLine, StaysUnit, WritesAnswer, doing, entry_for}
 use Rattle.block_server.specs.Ends.{EndsLogin}
 use Rattle.block_server.specs.Granting.{login_state}
 use Rattle.block_server.specs.Ranges.{Known, client_known, known_in, seen_in}
-use Rattle.block_server.specs.Receipts.{Standing, standing_of}
+use Rattle.block_server.specs.Receipts.{Standing, is_down, is_ended, standing_of}
 use Rattle.block_server.specs.Serving.{LeavesRow, SettlesRow}
 use Rattle.block_server.specs.SiteState.{SiteState}
 use Rattle.block_server.specs.Standing.{Stands}
@@ -32,31 +32,43 @@ use Rattle.block_server.specs.declared.service.Outcome.TheVariants as outcomes
 use Rattle.block_server.specs.declared.service.Stage.{Stage}
 use Rattle.block_server.specs.declared.service.Stage.TheVariants as stages
 use Rattle.block_server.specs.declared.unit.Unit.{Unit}
-use Rattle.block_server.proofs.DoingAsides.{come_same, known_equal}
+use Rattle.block_server.proofs.DoingEnds.{keeps_none, one_drops}
+use Rattle.block_server.proofs.DoingReplies.{PutsOrLoses, come_same, known_equal, reaches_of}
 use Rattle.block_server.proofs.Doings.{does_none, does_one, does_then}
 use Rattle.block_server.proofs.LastRows.{answer_none}
 
 -- WHAT IS THE SAME -------------------------------------------------------------------------------
 
--- A call of the queue that puts nothing and takes nothing, and windows as they were, leave all as it was.
-pub doing_same : (unit : Unit) (old new : SiteState) (records records' : Records) → new.own.place ≡ old.own.place → new.queue.place ≡ old.queue.place → new.queue.last_session ≡ old.queue.last_session
-    → new.queue.taken ≡ old.queue.taken → new.queue.sent ≡ old.queue.sent → new.client ≡ old.client → records'.history.items ≡ records.history.items → records'.grants.items ≡ records.grants.items
-    → doing unit new records' ≡ doing unit old records
-doing_same unit old new records records' place queue session taken sent client rows lines =
-    λ i. record (doing unit old records) {
-      name = (place i).unit;
-      coming = come_same old.queue new.queue queue session taken i;
-      sent = sent i;
-      client = client i;
-      rows = rows i;
-      lines = lines i;
-    }
-
 pub dropped : (items left rest : List Request) (request : Request) → items ≡ request ∷ rest → left ≡ drop 1 items → items ≡ request ∷ left
 dropped items left rest request is drops = is ∙ ap (λ (list : List Request). request ∷ list) (sym (drops ∙ ap (λ (list : List Request). drop 1 list) is))
 
-pub none_kept : (kept : Option Kept) → kept ≡ None → KeepsNoAnswer kept
-none_kept kept none = subst KeepsNoAnswer (sym none) tt
+-- The queue is as it was.
+pub unit_queue : (unit unit' : Unit) (old new : SiteState) (records records' : Records) → new.own.place ≡ old.own.place → unit'.id ≡ unit.id → unit'.logins.granted ≡ unit.logins.granted → new.queue ≡ old.queue
+    → StaysUnit (doing unit old records) (doing unit' new records')
+unit_queue unit unit' old new records records' own id granted queue =
+    record {
+      name = ap (λ (p : PortPlace). p.unit) own;
+      id = id;
+      granted = granted;
+      partner = ap (λ (q : EndState). q.place.partner_registered) queue;
+      to = ap (λ (q : EndState). q.counts.partner_session) queue;
+    }
+
+pub line_queue : (unit unit' : Unit) (old new : SiteState) (records records' : Records) → is_ended unit'.line ≡ is_ended unit.line → unit'.line.handshake ≡ unit.line.handshake → new.queue ≡ old.queue
+    → StaysLine (doing unit old records) (doing unit' new records')
+line_queue unit unit' old new records records' ended handshake queue =
+    record { ended = ended; handshake = handshake; event = ap (λ (q : EndState). q.kept) queue; reaches = ap reaches_of queue }
+
+-- An entry was sent.
+pub unit_sends : (link : Bool) (unit unit' : Unit) (old new : SiteState) (records records' : Records) → link ≡ false → OnlySends link old.queue new.queue → new.own.place ≡ old.own.place
+    → unit'.id ≡ unit.id → unit'.logins.granted ≡ unit.logins.granted → StaysUnit (doing unit old records) (doing unit' new records')
+unit_sends link unit unit' old new records records' alone rest own id granted =
+    record { name = ap (λ (p : PortPlace). p.unit) own; id = id; granted = granted; partner = λ i. (rest.place i).partner_registered; to = rest.counts.same_session alone }
+
+pub line_sends : (link : Bool) (unit unit' : Unit) (old new : SiteState) (records records' : Records) → OnlySends link old.queue new.queue
+    → is_ended unit'.line ≡ is_ended unit.line → unit'.line.handshake ≡ unit.line.handshake → StaysLine (doing unit old records) (doing unit' new records')
+line_sends link unit unit' old new records records' rest ended handshake =
+    record { ended = ended; handshake = handshake; event = rest.kept; reaches = λ i. rest.registered i && (rest.place i).partner_registered }
 
 -- WRITING IT -------------------------------------------------------------------------------------
 
@@ -71,7 +83,8 @@ pub writes_answer : (unit unit' : Unit) (old new : SiteState) (records : Records
     → BearsIn (IsAnswerPart (own_name old.own request.tag) request.address unit.service.answer.items) (client_known old) (client_known new)
     → WritesAnswer (doing unit old records) (doing unit' new records)
 writes_answer unit unit' old new records outcome request rest apart parts at stage id answer pending line logins queue advances stands bears = record {
-  stays = record { name = ap (λ (p : PortPlace). p.unit) advances.own_place; id = id; granted = ap (λ (l : Logins). l.granted) logins };
+  stays = unit_queue unit unit' old new records records advances.own_place id (ap (λ (l : Logins). l.granted) logins) queue;
+  line = line_queue unit unit' old new records records (ap is_ended line) (ap (λ (l : Line). l.handshake) line) queue;
   outcome = outcome;
   first = at;
   stage = stage;
@@ -94,18 +107,25 @@ writes_answer unit unit' old new records outcome request rest apart parts at sta
 
 -- The window refused it, and the session ended.
 pub refused_drops : (unit mid unit' : Unit) (old new : SiteState) (records records' : Records) (outcome : Outcome) (session : ℕ) (cause : Lapse) (outstanding granted : ℕ)
-    → EndsLogin mid unit' records records' session cause outstanding granted → mid.id ≡ unit.id → mid.logins ≡ unit.logins → mid.service.stage ≡ stages.Answer outcome
+    → unit.service.stage ≡ stages.Answer outcome → EndsLogin mid unit' records records' session cause outstanding granted → mid.id ≡ unit.id → mid.logins ≡ unit.logins → mid.service.stage ≡ stages.Answer outcome
     → LeavesRow mid.service.stage mid.service.given.items records.history.items records'.history.items → unit'.id ≡ mid.id → unit'.service.stage ≡ stages.Start
-    → new.queue ≡ old.queue → Advances old new → StaysKnown old.client new.client
+    → unit'.line.closing ≡ true → unit'.line.handshake ≡ unit.line.handshake → new.queue ≡ old.queue → Advances old new → StaysKnown old.client new.client
     → DropsAll (doing unit old records) (doing unit' new records')
-refused_drops unit mid unit' old new records records' outcome session cause outstanding granted ends id logins at leaves id' stage queue advances known = record {
-  stays = record { name = ap (λ (p : PortPlace). p.unit) advances.own_place; id = id' ∙ id; granted = ends.as_many ∙ ap (λ (l : Logins). l.granted) logins };
+refused_drops unit mid unit' old new records records' outcome session cause outstanding granted was ends id logins at leaves id' stage closing handshake queue advances known = record {
+  stays = unit_queue unit unit' old new records records' advances.own_place (id' ∙ id) (ends.as_many ∙ ap (λ (l : Logins). l.granted) logins) queue;
+  event = ap (λ (q : EndState). q.kept) queue;
+  reaches = ap reaches_of queue;
+  why = inr (
+    ap (λ (b : Bool). b || is_down unit'.line.handshake) closing,
+    handshake,
+    inl (ap (λ (q : EndState). (doing unit (record new { queue = q }) records).coming) queue),
+  );
   put = record { sent = ap (λ (q : EndState). q.sent) queue; client = known; rows = answer_none mid.service.stage outcome mid.service.given.items records.history.items records'.history.items at leaves };
+  unanswered = λ other entry. absurd (cc (was, entry));
   stage = stage;
   kept = ends.kept;
   pending = ends.pending;
   current = ends.off;
-  coming = inl (ap (λ (q : EndState). (doing unit (record new { queue = q }) records).coming) queue);
   cause = cause;
   session = session;
   outstanding = outstanding;
@@ -122,44 +142,47 @@ settled_as outcomes.Rejected id session logins lines lines' added = added ∙ ap
 settled_as (outcomes.Served row) id session logins lines lines' added = added ∙ append-nil lines
 
 -- It was put, and the request is served.
-pub puts_entry : (unit unit' : Unit) (old new : SiteState) (records records' : Records) (outcome : Outcome) (request : Request) (rest : List Request) (to session : ℕ) (entry : Entry)
-    → unit.service.stage ≡ stages.Entry outcome → unit.pending.items ≡ request ∷ rest → entry ≡ entry_for request unit.service.answer.items
-    → new.queue.sent ≡ old.queue.sent ++ record { session = to; entry = entry } ∷ [] → new.own.place ≡ old.own.place → new.queue.place ≡ old.queue.place → new.queue.last_session ≡ old.queue.last_session
-    → new.queue.taken ≡ old.queue.taken → new.client ≡ old.client → standing_of unit' ≡ standing_of unit → unit'.service.stage ≡ stages.Start → unit'.line.kept ≡ None
+pub puts_entry : (link : Bool) (unit unit' : Unit) (old new : SiteState) (records records' : Records) (outcome : Outcome) (request : Request) (rest : List Request) (session : ℕ) (entry : Entry)
+    → link ≡ false → unit.service.stage ≡ stages.Entry outcome → unit.pending.items ≡ request ∷ rest → entry ≡ entry_for request unit.service.answer.items
+    → reaches_of old.queue ≡ true → PutsOrLoses old.queue new.queue entry → OnlySends link old.queue new.queue → new.own.place ≡ old.own.place → new.client ≡ old.client
+    → standing_of unit' ≡ standing_of unit → unit'.line.handshake ≡ unit.line.handshake → unit'.service.stage ≡ stages.Start → unit'.line.kept ≡ None
     → unit'.pending.items ≡ drop 1 unit.pending.items → SettlesRow outcome unit.service.answer.items records.history.items records'.history.items
     → records'.grants.items ≡ records.grants.items ++ settled_lines outcome unit.id session unit.logins
     → PutsEntry (doing unit old records) (doing unit' new records')
-puts_entry unit unit' old new records records' outcome request rest to session entry at parts entry_is sent own place last taken client stands stage kept pending row lines = record {
-  stays = record { name = ap (λ (p : PortPlace). p.unit) own; id = ap (λ (s : Standing). s.id) stands; granted = ap (λ (s : Standing). s.granted) stands };
+puts_entry link unit unit' old new records records' outcome request rest session entry alone at parts entry_is reach sent only own client stands handshake stage kept pending row lines = record {
+  stays = unit_sends link unit unit' old new records records' alone only own (ap (λ (s : Standing). s.id) stands) (ap (λ (s : Standing). s.granted) stands);
+  line = line_sends link unit unit' old new records records' only (ap (λ (s : Standing). s.ended) stands) handshake;
+  reaches = reach;
   outcome = outcome;
   first = at;
   stage = stage;
   kept = kept;
-  coming = come_same old.queue new.queue place last taken;
+  coming = come_same old.queue new.queue only.place only.last_session only.taken;
   client = known_equal old.client new.client client;
   request = request;
   pending = dropped unit.pending.items unit'.pending.items rest request parts pending;
-  to = to;
-  sent = sent ∙ ap (λ (e : Entry). old.queue.sent ++ record { session = to; entry = e } ∷ []) entry_is;
+  sent = subst (PutsOrLoses old.queue new.queue) entry_is sent;
   rows = row;
   lines = settled_as outcome unit.id session unit.logins records.grants.items records'.grants.items lines;
 }
 
 -- It met a closed queue.
-pub loses_entry : (unit unit' : Unit) (old new : SiteState) (records : Records) (outcome : Outcome) (request : Request) (rest : List Request)
-    → unit.service.stage ≡ stages.Entry outcome → unit.pending.items ≡ request ∷ rest
-    → new.queue.sent ≡ old.queue.sent → new.own.place ≡ old.own.place → new.queue.place ≡ old.queue.place → new.queue.last_session ≡ old.queue.last_session
-    → new.queue.taken ≡ old.queue.taken → new.client ≡ old.client → standing_of unit' ≡ standing_of unit → unit'.service.stage ≡ stages.Start → unit'.line.kept ≡ None
+pub loses_entry : (link : Bool) (unit unit' : Unit) (old new : SiteState) (records : Records) (outcome : Outcome) (request : Request) (rest : List Request)
+    → link ≡ false → unit.service.stage ≡ stages.Entry outcome → unit.pending.items ≡ request ∷ rest → reaches_of old.queue ≡ false → new.queue.sent ≡ old.queue.sent
+    → OnlySends link old.queue new.queue → new.own.place ≡ old.own.place → new.client ≡ old.client
+    → standing_of unit' ≡ standing_of unit → unit'.line.handshake ≡ unit.line.handshake → unit'.service.stage ≡ stages.Start → unit'.line.kept ≡ None
     → unit'.pending.items ≡ drop 1 unit.pending.items → unit'.logins ≡ unit.logins
     → LosesEntry (doing unit old records) (doing unit' new records)
-loses_entry unit unit' old new records outcome request rest at parts sent own place last taken client stands stage kept pending logins = record {
-  stays = record { name = ap (λ (p : PortPlace). p.unit) own; id = ap (λ (s : Standing). s.id) stands; granted = ap (λ (s : Standing). s.granted) stands };
+loses_entry link unit unit' old new records outcome request rest alone at parts reach sent only own client stands handshake stage kept pending logins = record {
+  stays = unit_sends link unit unit' old new records records alone only own (ap (λ (s : Standing). s.id) stands) (ap (λ (s : Standing). s.granted) stands);
+  line = line_sends link unit unit' old new records records only (ap (λ (s : Standing). s.ended) stands) handshake;
   put = record { sent = sent; client = known_equal old.client new.client client; rows = refl };
+  reaches = reach;
   outcome = outcome;
   first = at;
   stage = stage;
   kept = kept;
-  coming = come_same old.queue new.queue place last taken;
+  coming = come_same old.queue new.queue only.place only.last_session only.taken;
   request = request;
   pending = dropped unit.pending.items unit'.pending.items rest request parts pending;
   logins = ap login_state logins;
@@ -167,24 +190,25 @@ loses_entry unit unit' old new records outcome request rest at parts sent own pl
 }
 
 -- It found the client's queue full, and is kept.
-pub keeps_entry : (unit : Unit) (kept : Option Kept) (old new : SiteState) (records : Records) (outcome : Outcome) (request : Request) (rest : List Request) (entry : Entry)
-    → unit.service.stage ≡ stages.Entry outcome → unit.line.kept ≡ None → unit.pending.items ≡ request ∷ rest → entry ≡ entry_for request unit.service.answer.items
-    → kept ≡ Some (keeps.Answer entry outcome)
-    → new.queue.sent ≡ old.queue.sent → new.own.place ≡ old.own.place → new.queue.place ≡ old.queue.place → new.queue.last_session ≡ old.queue.last_session
-    → new.queue.taken ≡ old.queue.taken → new.client ≡ old.client
+pub keeps_entry : (link : Bool) (unit : Unit) (kept : Option Kept) (old new : SiteState) (records : Records) (outcome : Outcome) (request : Request) (rest : List Request) (entry : Entry)
+    → link ≡ false → unit.service.stage ≡ stages.Entry outcome → unit.line.kept ≡ None → unit.pending.items ≡ request ∷ rest → entry ≡ entry_for request unit.service.answer.items
+    → kept ≡ Some (keeps.Answer entry outcome) → reaches_of old.queue ≡ true → new.queue.sent ≡ old.queue.sent
+    → OnlySends link old.queue new.queue → new.own.place ≡ old.own.place → new.client ≡ old.client
     → KeepsEntry (doing unit old records) (record (doing unit new records) { kept = kept })
-keeps_entry unit kept old new records outcome request rest entry at none parts entry_is is sent own place last taken client = record {
+keeps_entry link unit kept old new records outcome request rest entry alone at none parts entry_is is reach sent only own client = record {
+  reaches = reach;
   outcome = outcome;
   first = at;
-  was = none_kept unit.line.kept none;
+  was = keeps_none unit.line.kept none;
   request = request;
   rest = rest;
   pending = parts;
-  stays = record { name = ap (λ (p : PortPlace). p.unit) own; id = refl; granted = refl };
+  stays = record { name = ap (λ (p : PortPlace). p.unit) own; id = refl; granted = refl; partner = λ i. (only.place i).partner_registered; to = only.counts.same_session alone };
+  line = record { ended = refl; handshake = refl; event = only.kept; reaches = λ i. only.registered i && (only.place i).partner_registered };
   put = record { sent = sent; client = known_equal old.client new.client client; rows = refl };
   served = record { stage = refl; answer = refl; pending = refl };
   kept = is ∙ ap (λ (e : Entry). Some (keeps.Answer e outcome)) entry_is;
-  coming = come_same old.queue new.queue place last taken;
+  coming = come_same old.queue new.queue only.place only.last_session only.taken;
   logins = refl;
   lines = refl;
 }
@@ -192,7 +216,7 @@ keeps_entry unit kept old new records outcome request rest entry at none parts e
 -- WHERE THE UNIT RESTS ---------------------------------------------------------------------------
 
 pub rests_free : (unit : Unit) (site : SiteState) (records : Records) → unit.waiting ≡ None → unit.service.stage ≡ stages.Start → unit.line.kept ≡ None → IsAtRest (doing unit site records)
-rests_free unit site records waiting stage kept = inl (record { waiting = waiting; stage = stage; kept = none_kept unit.line.kept kept })
+rests_free unit site records waiting stage kept = inl (record { waiting = waiting; stage = stage; kept = keeps_none unit.line.kept kept })
 
 pub rests_kept : (unit : Unit) (kept : Option Kept) (site : SiteState) (records : Records) (outcome : Outcome) (request : Request) (rest : List Request) (entry : Entry)
     → unit.service.stage ≡ stages.Entry outcome → unit.pending.items ≡ request ∷ rest → entry ≡ entry_for request unit.service.answer.items
@@ -211,20 +235,17 @@ rests_kept unit kept site records outcome request rest entry at parts entry_is i
 
 -- THE STEPS --------------------------------------------------------------------------------------
 
-pub does_drop : (old new : Doing) → DropsAll old new → DoesOne old new
-does_drop old new is = inr (inr (inr (inl is)))
-
 pub does_write : (old new : Doing) → WritesAnswer old new → DoesOne old new
-does_write old new is = inr (inr (inr (inr (inr (inr (inl is))))))
+does_write old new is = inr (inr (inr (inr (inr (inr (inr (inr (inr (inr (inr (inr (inl is))))))))))))
 
 pub does_keep : (old new : Doing) → KeepsEntry old new → DoesOne old new
-does_keep old new is = inr (inr (inr (inr (inr (inr (inr (inl is)))))))
+does_keep old new is = inr (inr (inr (inr (inr (inr (inr (inr (inr (inr (inr (inr (inr (inl is)))))))))))))
 
 pub does_put : (old new : Doing) → PutsEntry old new → DoesOne old new
-does_put old new is = inr (inr (inr (inr (inr (inr (inr (inr (inl is))))))))
+does_put old new is = inr (inr (inr (inr (inr (inr (inr (inr (inr (inr (inr (inr (inr (inr (inl is))))))))))))))
 
 pub does_lose : (old new : Doing) → LosesEntry old new → DoesOne old new
-does_lose old new is = inr (inr (inr (inr (inr (inr (inr (inr (inr is))))))))
+does_lose old new is = inr (inr (inr (inr (inr (inr (inr (inr (inr (inr (inr (inr (inr (inr (inr is))))))))))))))
 
 -- THE TURN ---------------------------------------------------------------------------------------
 
@@ -248,7 +269,7 @@ answered_put a m b outcome at (inr drops) puts rests = absurd (apart m.stage out
 -- It was not, and the session ended.
 pub answered_none : (a m : Doing) → ((outcome : Outcome) → m.stage ≡ stages.Entry outcome → ⊥) → WritesAnswer a m ⊎ DropsAll a m → m.waiting ≡ None → DoesTurn a m
 answered_none a m not (inl writes) waiting = absurd (not writes.outcome writes.stage)
-answered_none a m not (inr drops) waiting = turn_one a m (does_drop a m drops) (inl (record { waiting = waiting; stage = drops.stage; kept = none_kept m.kept drops.kept }))
+answered_none a m not (inr drops) waiting = turn_one a m (one_drops a m drops) (inl (record { waiting = waiting; stage = drops.stage; kept = keeps_none m.kept drops.kept }))
 
 -- WHAT WAS KEPT ----------------------------------------------------------------------------------
 
@@ -285,5 +306,5 @@ answer_kept at entry outcome is (inr awaits) =
       waiting = awaits.waiting;
     }
 
-pub does_aside : (old new : Doing) → StepsAside old new → DoesOne old new
-does_aside old new is = inl is
+pub does_reply : (old new : Doing) → SendsKept old new → DoesOne old new
+does_reply old new is = inr (inr (inr (inr (inl is))))

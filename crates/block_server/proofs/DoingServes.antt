@@ -9,6 +9,7 @@ use Rattle.block_server.specs.Doings.{DoesOne, DoesTurn, Doing, LogsOutFirst, Pr
 use Rattle.block_server.specs.Granting.{LoginState, login_state}
 use Rattle.block_server.specs.Judged.{row_in}
 use Rattle.block_server.specs.Ranges.{Known, client_known}
+use Rattle.block_server.specs.Receipts.{is_ended}
 use Rattle.block_server.specs.RowsOn.{HasLastRow}
 use Rattle.block_server.specs.SiteState.{SiteState}
 use Rattle.block_server.specs.Stage.{is_answered}
@@ -25,8 +26,8 @@ use Rattle.block_server.specs.declared.service.Service.{Service}
 use Rattle.block_server.specs.declared.service.Stage.{Stage}
 use Rattle.block_server.specs.declared.service.Stage.TheVariants as stages
 use Rattle.block_server.specs.declared.unit.Unit.{Unit}
-use Rattle.block_server.proofs.DoingAnswers.{dropped, seen_alone}
-use Rattle.block_server.proofs.DoingAsides.{known_equal}
+use Rattle.block_server.proofs.DoingAnswers.{dropped, line_queue, seen_alone, unit_queue}
+use Rattle.block_server.proofs.DoingReplies.{known_equal, reaches_of}
 use Rattle.block_server.proofs.Doings.{does_one, does_then}
 use Rattle.block_server.proofs.Leaving.{made_at}
 use Rattle.block_server.proofs.Talking.{not_in_use}
@@ -36,7 +37,8 @@ pub logs_out_first : (unit unit' : Unit) (site : SiteState) (records records' : 
     → unit.service.stage ≡ stages.Start → unit'.id ≡ unit.id → LogsOut unit unit' site.queue site.queue records.grants.items records'.grants.items → records'.history.items ≡ records.history.items
     → LogsOutFirst (doing unit site records) (doing unit' site records')
 logs_out_first unit unit' site records records' request rest parts order start id out rows = record {
-  stays = record { name = refl; id = id; granted = out.granted };
+  stays = unit_queue unit unit' site site records records' refl id out.granted refl;
+  line = line_queue unit unit' site site records records' (ap is_ended out.over.line) (ap (λ (l : Line). l.handshake) out.over.line) refl;
   put = record { sent = refl; client = known_equal site.client site.client refl; rows = rows };
   first = start;
   stage = out.over.stage;
@@ -64,7 +66,19 @@ prepares_at : (unit unit2 : Unit) (service : Service) (old mid : SiteState) (rec
     → BearsRow (stood old.client) (own_name old.own found.tag) found.order records2.history.items (row_in service.stage) (client_known old) (client_known mid)
     → Prepares (doing unit old records) (record (doing unit2 mid records2) { stage = service.stage; answer = service.answer.items })
 prepares_at unit unit2 service old mid records records2 found rest outcome start parts order id logins line pending queue advances apart lines at suits has last bears = record {
-  stays = record { name = ap (λ (p : PortPlace). p.unit) advances.own_place; id = id; granted = ap (λ (l : Logins). l.granted) logins };
+  stays = record {
+    name = ap (λ (p : PortPlace). p.unit) advances.own_place;
+    id = id;
+    granted = ap (λ (l : Logins). l.granted) logins;
+    partner = ap (λ (q : EndState). q.place.partner_registered) queue;
+    to = ap (λ (q : EndState). q.counts.partner_session) queue;
+  };
+  line = record {
+    ended = ap is_ended line;
+    handshake = ap (λ (l : Line). l.handshake) line;
+    event = ap (λ (q : EndState). q.kept) queue;
+    reaches = ap reaches_of queue;
+  };
   first = start;
   outcome = outcome;
   stage = at;
@@ -99,10 +113,10 @@ prepares unit unit2 service old mid records records2 found rest outcome same sta
     (prepares_at unit unit2 service old mid records records2 found rest outcome start parts order id logins line pending queue advances apart lines at suits has last bears)
 
 pub does_log_out : (old new : Doing) → LogsOutFirst old new → DoesOne old new
-does_log_out old new is = inr (inr (inr (inr (inl is))))
+does_log_out old new is = inr (inr (inr (inr (inr (inr (inr (inr (inr (inr (inl is))))))))))
 
 pub does_prepare : (old new : Doing) → Prepares old new → DoesOne old new
-does_prepare old new is = inr (inr (inr (inr (inr (inl is)))))
+does_prepare old new is = inr (inr (inr (inr (inr (inr (inr (inr (inr (inr (inr (inl is)))))))))))
 
 pub turn_then : (a m b : Doing) → DoesOne a m → DoesTurn m b → DoesTurn a b
 turn_then a m b one turn = record { does = does_then a m b (does_one a m one) turn.does; rests = turn.rests }

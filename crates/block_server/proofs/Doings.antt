@@ -1,7 +1,5 @@
 -- What a turn does, step by step: steps one behind the other.
-use Rattle.std.proofs.Common.{◌≡◌, List, [], ◌∷◌, subst, sym}
-use Rattle.std.proofs.Common.{inl, refl}
-use Rattle.std.specs.Prelude.{◌++◌, All}
+use Rattle.std.proofs.Common.{◌≡◌, ◌++◌, List, [], ◌∷◌, refl, subst}
 use Rattle.block_server.specs.Doings.{Does, DoesOne, Doing, LeadsOver}
 
 -- nothing was done

@@ -1,5 +1,5 @@
 -- What is left of the oldest request, once it was prepared and answered.
-use Rattle.std.proofs.Common.{◌≡◌, ◌⊎◌, inl, inr, ◌++◌, ℕ, Bool, true, false, cond, List, [], ◌∷◌, Option, Some, None, Result, Ok, Err, OnOk, length, slice_get, refl, sym, ◌∙◌, ap, subst}
+use Rattle.std.proofs.Common.{◌≡◌, ◌≢◌, ◌⊎◌, inl, inr, ◌++◌, ℕ, Bool, true, false, cond, List, [], ◌∷◌, Option, Some, None, Result, Ok, Err, OnOk, length, slice_get, refl, sym, ◌∙◌, ap, subst}
 use Rattle.vio_num.specs.Entry.{srp_entry}
 use Rattle.vio_num.specs.declared.entry.Entry.{Entry}
 use Rattle.vio_num.specs.declared.history.Grant.{Grant}
@@ -23,6 +23,7 @@ use Rattle.block_server.specs.Stage.{is_answered}
 use Rattle.block_server.specs.Standing.{HasAnswerAt, IsAnswerTo, IsPutLast, LeavesAnswer, LeavesRowOf, Stands, stood}
 use Rattle.block_server.specs.Talk.{HasRoomFor, IsAnswerAt, IsServable, MayWriteAnswer, PutsAnswer, Replies, Suits, SuitsStage, reach_of, session_rows}
 use Rattle.block_server.specs.Waits.{MeetsUse}
+use Rattle.block_server.specs.declared.request.Order.TheVariants as orders
 use Rattle.block_server.specs.declared.request.Request.{Request}
 use Rattle.block_server.specs.declared.service.Outcome.{Outcome}
 use Rattle.block_server.specs.declared.service.Outcome.TheVariants as outcomes
@@ -135,7 +136,7 @@ seen_alone shared port apart = ap (λ (b : Bool). cond b None (Some (known_in po
 pub leaves_first : {A : Type 0} (link : Bool) (unit unit2 unit' : Unit) (id : UnitId) (old mid new : SiteState) (l2 l' : List Grant) (rows rows2 rows' : List ServedRow) (found request : Request) (xs rest : List Request)
     (stage : Stage) (made : List ℕ) (result : Result A NoMemory) → IsServable unit (reach_of old) link request rest → unit.pending.items ≡ found ∷ xs → Advances old mid → Advances mid new → mid.queue ≡ old.queue
     → unit2.pending.items ≡ unit.pending.items → unit2.service.stage ≡ stage → unit2.service.answer.items ≡ made → (is_answered stage ≡ true) ⊎ MeetsUse old mid
-    → SuitsStage unit.logins.current found.order stage → HasAnswerAt (login_state unit.logins) found stage made
+    → SuitsStage unit.logins.current found.order stage → request.order ≢ orders.Logout → HasAnswerAt (login_state unit.logins) found stage made
     → HasLastRow id found rows (row_in stage) rows2 → KeepsLastRow (row_in unit2.service.stage) rows2 rows'
     → BearsRow (stood old.client) (own_name old.own found.tag) found.order rows2 (row_in stage) (client_known old) (client_known mid)
     → ((outcome : Outcome) → IsAnswerAt unit2.service.stage outcome → unit2.pending.items ≡ request ∷ rest → link ≡ false → mid.shared ≡ false → mid.queue.registered ≡ true
@@ -149,8 +150,8 @@ pub leaves_first : {A : Type 0} (link : Bool) (unit unit2 unit' : Unit) (id : Un
     → (is_loaded unit2.service.stage ≡ false → rows_of rows' ≡ rows_of rows2)
     → (unit2.pending.items ≡ request ∷ rest → BearsIn (IsAnswerPart (own_name mid.own request.tag) request.address unit2.service.answer.items) (client_known mid) (client_known new))
     → OnOk result (LeavesAnswer unit.logins.current unit.logins.granted old.own.place.unit (question_of request) new.queue old.client new.client rows rows')
-leaves_first link unit unit2 unit' id old mid new l2 l' rows rows2 rows' found request xs rest stage made (Err memory) servable front advances after queue pending at made_is went suits has last keeps handed answers laid settles kept bears = tt
-leaves_first link unit unit2 unit' id old mid new l2 l' rows rows2 rows' found request xs rest stage made (Ok done) servable front advances after queue pending at made_is went suits has last keeps handed answers laid settles kept bears =
+leaves_first link unit unit2 unit' id old mid new l2 l' rows rows2 rows' found request xs rest stage made (Err memory) servable front advances after queue pending at made_is went suits other has last keeps handed answers laid settles kept bears = tt
+leaves_first link unit unit2 unit' id old mid new l2 l' rows rows2 rows' found request xs rest stage made (Ok done) servable front advances after queue pending at made_is went suits other has last keeps handed answers laid settles kept bears =
     by went
   where
     to : OnlyReserves old.queue mid.queue
@@ -163,7 +164,7 @@ leaves_first link unit unit2 unit' id old mid new l2 l' rows rows2 rows' found r
     parts = pending ∙ servable.pending
 
     may : MayWriteAnswer mid.client request.address
-    may = may_later old mid request.address servable.apart advances servable.may
+    may = may_later old mid request.address servable.apart advances (servable.may other)
 
     apart : mid.shared ≡ false
     apart = advances.shared ∙ servable.apart

@@ -2,6 +2,7 @@ pub mod Advancing
 pub mod Doings
 pub mod DoingEnds
 pub mod DoingHears
+pub mod DoingReplies
 pub mod DoingAsides
 pub mod DoingAnswers
 pub mod DoingServes

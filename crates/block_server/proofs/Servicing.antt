@@ -237,12 +237,12 @@ answers_first link unit unit1 unit' q0 q1 q2 q' l0 l1 l2 l' outcome found reques
 -- The oldest request was prepared, and then answered.
 pub serve_first : {A : Type 0} (link : Bool) (unit unit2 unit' : Unit) (old mid new : SiteState) (l l2 l' : List Grant) (found request : Request) (xs rest : List Request) (stage : Stage) (result : Result A NoMemory)
     → IsServable unit (reach_of old) link request rest → unit.pending.items ≡ found ∷ xs → Advances old mid → mid.queue ≡ old.queue → unit2.id ≡ unit.id → unit2.pending.items ≡ unit.pending.items → unit2.line ≡ unit.line
-    → unit2.waiting ≡ unit.waiting → unit2.logins ≡ unit.logins → unit2.service.stage ≡ stage → l2 ≡ l → (is_answered stage ≡ true) ⊎ MeetsUse old mid → SuitsStage unit.logins.current found.order stage
+    → unit2.waiting ≡ unit.waiting → unit2.logins ≡ unit.logins → unit2.service.stage ≡ stage → l2 ≡ l → (is_answered stage ≡ true) ⊎ MeetsUse old mid → SuitsStage unit.logins.current found.order stage → found.order ≢ orders.Logout
     → ((outcome : Outcome) → IsAnswerAt unit2.service.stage outcome → unit2.pending.items ≡ request ∷ rest → link ≡ false → mid.shared ≡ false → mid.queue.registered ≡ true → MayWriteAnswer mid.client request.address
     → HasRoomFor mid.queue 1 → OnOk result (PutsAnswer unit2 unit' mid.queue new.queue l2 l' outcome (srp_entry (length unit2.service.answer.items) request.tag)))
     → OnOk result (ServesFirst unit unit' old.queue new.queue l l' request)
-serve_first link unit unit2 unit' old mid new l l2 l' found request xs rest stage (Err memory) servable front advances queue id pending line waiting logins at lines went suits answers = tt
-serve_first link unit unit2 unit' old mid new l l2 l' found request xs rest stage (Ok done) servable front advances queue id pending line waiting logins at lines went suits answers = by went
+serve_first link unit unit2 unit' old mid new l l2 l' found request xs rest stage (Err memory) servable front advances queue id pending line waiting logins at lines went suits other answers = tt
+serve_first link unit unit2 unit' old mid new l l2 l' found request xs rest stage (Ok done) servable front advances queue id pending line waiting logins at lines went suits other answers = by went
   where
     to : OnlyReserves old.queue mid.queue
     to = same_reserves old.queue mid.queue queue
@@ -258,7 +258,7 @@ serve_first link unit unit2 unit' old mid new l l2 l' found request xs rest stag
           long = length unit2.service.answer.items;
           put = puts_from unit unit2 unit' old.queue mid.queue new.queue l l2 l' is.0 (srp_entry (length unit2.service.answer.items) request.tag) id pending line waiting logins to lines
               (answers is.0 (subst (λ (s : Stage). IsAnswerAt s is.0) (sym at) is.1) (pending ∙ servable.pending) servable.alone (advances.shared ∙ servable.apart) (to.registered ∙ servable.registered)
-              (may_later old mid request.address servable.apart advances servable.may)
+              (may_later old mid request.address servable.apart advances (servable.may (λ asked. other (ap (λ (r : Request). r.order) same ∙ asked))))
               (slots_kept old.queue mid.queue 1 to.place (ap (λ counts. counts.partner_session) to.counts) (puts_none old.queue mid.queue to.sent) servable.slots));
         })
 

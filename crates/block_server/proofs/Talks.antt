@@ -1,6 +1,5 @@
 -- A turn in which nothing is amiss: how its parts follow one another.
-use Rattle.std.proofs.Common.{◌≡◌, ◌≢◌, ◌⊎◌, ◌||◌, inl, inr, ◌+◌, ◌++◌, ◌≤◌, ℕ, Bool, true, false, cond, All, IsSome, List, [], ◌∷◌, Option, Some, None, Result, Ok, Err, OnOk, drop, length, slice_get, slice_set, refl, sym, ◌∙◌, ap, subst, arith, length-append}
-use Rattle.std.proofs.lemmas.List.Elements.{All-append, All-cons, All-head, All-nil, All-tail}
+use Rattle.std.proofs.Common.{◌≡◌, ◌≢◌, ◌⊎◌, ◌||◌, inl, inr, ◌+◌, ◌++◌, ◌≤◌, ℕ, Bool, true, false, cond, IsSome, List, [], ◌∷◌, Option, Some, None, Result, Ok, Err, OnOk, drop, length, slice_get, slice_set, refl, sym, ◌∙◌, ap, subst, arith, length-append}
 use Rattle.crq_ring.proofs.SessionLaws.{of_session-append, of_session-nil, of_session-push}
 use Rattle.crq_ring.specs.Sessions.{of_session}
 use Rattle.crq_ring.specs.declared.rows.PipeRow.{PipeRow}
@@ -12,8 +11,7 @@ use Rattle.tce_window.specs.declared.answers.Right.TheVariants.{Write}
 use Rattle.vio_num.specs.declared.entry.Entry.{Entry}
 use Rattle.vio_num.specs.declared.history.Grant.{Grant}
 use Rattle.vio_num.specs.declared.memory.NoMemory.{NoMemory}
-use Rattle.block_server.specs.Talk.{FitOneTurn, SayWords, ComeInOrder, HasHeard, HasHeardAll, HasRoomFor, HearsAll, HearsOne, IsListening, IsServable, IsTurnReady, MayWriteAnswer, MayWriteOver, PutsReplies, Reach, Replies, ServesFirst, ServesNext, StaysKnown, Talk, TalksOn, UnitTalksOn, Word, replies, session_rows, talk_of, to_come}
-use Rattle.block_server.specs.Talk.Word.{asks, begins, gone}
+use Rattle.block_server.specs.Talk.{FitOneTurn, SayWords, ComeInOrder, HasHeard, HasHeardAll, HasRoomFor, HearsAll, IsListening, IsServable, IsTurnReady, MayWriteAnswer, PutsReplies, Reach, Replies, ServesFirst, ServesNext, StaysKnown, Talk, TalksOn, UnitTalksOn, Word, replies, session_rows, talk_of, to_come}
 use Rattle.crq_session.specs.declared.handshake.Handshake.{Handshake}
 use Rattle.crq_session.specs.declared.handshake.Handshake.TheVariants.{Down, Up, Waiting}
 use Rattle.block_server.specs.Receipts.{is_down, is_ended}
@@ -126,23 +124,6 @@ slots_left old new count entries place partner put room on = subst (λ (z : ℕ 
 
 -- WHAT MAY BE ANSWERED ---------------------------------------------------------------------------
 
--- an answer may be written over each request of a list
-abbrev pub AreMay : PortState → List Request → Type 0
-AreMay client requests = All (λ request. MayWriteAnswer client request.address) requests
-
-may_one : (client : PortState) (a b : Talk) (number : ℕ) (word : Word) → HearsOne a number word b → MayWriteOver client word → AreMay client a.pending → AreMay client b.pending
-may_one client a b number begins is may all = subst (λ (t : Talk). AreMay client t.pending) (sym is) all
-may_one client a b number gone is may all = subst (AreMay client) (sym is.loses.pending) (All-nil (λ request. MayWriteAnswer client request.address))
-may_one client a b number (asks address bytes iu) is may all =
-    subst (AreMay client) (sym is.pending) (All-append (λ request. MayWriteAnswer client request.address) a.pending (is.request ∷ []) all
-    (All-cons (λ request. MayWriteAnswer client request.address) is.request [] (subst (MayWriteAnswer client) (sym is.is.address_is) may) (All-nil (λ request. MayWriteAnswer client request.address))))
-
-pub may_all : (client : PortState) (words : List Word) (a b : Talk) (number : ℕ) → HearsAll a number words b → All (MayWriteOver client) words → AreMay client a.pending → AreMay client b.pending
-may_all client [] a b number is may all = subst (λ (t : Talk). AreMay client t.pending) (sym is) all
-may_all client (word ∷ words) a b number is may all =
-    may_all client words is.0 b (number + 1) is.2 (All-tail (MayWriteOver client) word words may)
-    (may_one client a is.0 number word is.1 (All-head (MayWriteOver client) word words may) all)
-
 pub may_known : (old new : PortState) (address : ℕ) → StaysKnown old new → MayWriteAnswer old address → MayWriteAnswer new address
 may_known old new address same may =
     subst (λ (z : (ℕ → List ℕ) × ℕ). IsUsable z.0 Write z.1 address 256) (λ i. (sym same.values i, (sym same.place i).size)) may
@@ -210,9 +191,6 @@ talks_on link unit u1 u2 u3 u4 r0 r1 r2 r3 q4 l0 l2 l3 l4 words (Ok done) calm s
     all : HasHeard unit u3 r0 r3 l0 l3 words
     all = heard_on unit u2 u3 r0 r2 r3 l0 l2 l3 [] words (heard_still unit u2 r0 r2 l0 l2 same still2 client2 lines) heard.0
 
-    may : AreMay r0.client u3.pending.items
-    may = may_all r0.client words (talk_of unit) (talk_of u3) (length (taken_now r0.queue)) all.heard calm.asked calm.pending
-
     by : (pending : List Request) → u3.pending.items ≡ pending → ServesNext u3 u4 r3.queue q4 l3 l4
     by [] is = inl (record { none = is; same = none is; queue = queue is; lines_are = unserved is })
     by (request ∷ rest) is = inr (
@@ -225,7 +203,7 @@ talks_on link unit u1 u2 u3 u4 r0 r1 r2 r3 q4 l0 l2 l3 l4 words (Ok done) calm s
         registered = all.registered ∙ calm.calm.registered;
         pending = is;
         stage = all.stage calm.stage;
-        may = may_known r0.client r3.client request.address all.window (All-head (λ r. MayWriteAnswer r0.client r.address) request rest (subst (AreMay r0.client) is may));
+        may = λ asked. may_known r0.client r3.client request.address all.window (calm.next (talk_of u3) request rest all.heard is asked);
         slots = slots_left r0.queue r3.queue 1 (replies words) all.place all.partner all.put calm.slots;
       }),
     )
@@ -261,8 +239,7 @@ calm_from unit unit1 r link words talk line waiting stage calm = record {
   event = calm.event;
   few = record { slots = calm.few.slots; pending = subst (λ (t : Talk). length t.pending + length words ≤ 256) (sym talk) calm.few.pending };
   stage = stage ∙ calm.stage;
-  pending = subst (λ (t : Talk). AreMay r.client t.pending) (sym talk) calm.pending;
-  asked = calm.asked;
+  next = λ t request rest heard. calm.next t request rest (subst (λ (from : Talk). HearsAll from (length (taken_now r.queue)) words t) talk heard);
   slots = calm.slots;
 }
 

@@ -1,7 +1,6 @@
 -- What a turn lays in its client's window, and which answer it leaves there.
 use Rattle.std.proofs.Common.{◌≡◌, ◌≢◌, ◌⊎◌, inl, inr, ◌+◌, ◌≤◌, ℕ, Bool, false, cond, List, [], ◌∷◌, ◌++◌, Option, Some, None, Result, Ok, Err, OnOk, length, map, refl, slice_get, sym, ◌∙◌, ap, subst}
 use Rattle.std.proofs.lemmas.List.{map-append}
-use Rattle.std.proofs.lemmas.List.Elements.{All-head}
 use Rattle.tce_window.specs.PortState.{PortState}
 use Rattle.crq_session.specs.Answered.{taken_now}
 use Rattle.crq_session.specs.EndState.{EndState}
@@ -17,7 +16,7 @@ use Rattle.block_server.specs.Ranges.{IsDataIn, Known, LaysIn, MayWrite, WritesO
 use Rattle.block_server.specs.RowsOn.{KeepsIdleRows}
 use Rattle.block_server.specs.SiteState.{SiteState}
 use Rattle.block_server.specs.Standing.{LeavesAnswer, LeavesOn, stood}
-use Rattle.block_server.specs.Talk.{FitOneTurn, HasHeard, HearsAll, HearsOne, IsListening, IsServable, IsTurnReady, MayWriteAnswer, Reach, Replies, StaysKnown, Talk, Word, reach_of, replies, talk_of}
+use Rattle.block_server.specs.Talk.{FitOneTurn, HasHeard, HearsAll, HearsOne, IsListening, IsServable, IsTurnReady, Reach, Replies, StaysKnown, Talk, Word, reach_of, replies, talk_of}
 use Rattle.block_server.specs.Talk.Word.{asks, begins, gone}
 use Rattle.block_server.specs.declared.request.Order.{Order}
 use Rattle.block_server.specs.declared.request.Order.TheVariants as orders
@@ -28,7 +27,7 @@ use Rattle.block_server.proofs.Bearing.{bears_wider}
 use Rattle.block_server.proofs.Denying.{named_map}
 use Rattle.block_server.proofs.Listening.{heard_on}
 use Rattle.block_server.proofs.Stood.{stood_known}
-use Rattle.block_server.proofs.Talks.{AreMay, heard_still, may_all, may_known, ready_on, slots_left}
+use Rattle.block_server.proofs.Talks.{heard_still, may_known, ready_on, slots_left}
 
 -- WHAT WAS HEARD ---------------------------------------------------------------------------------
 
@@ -233,9 +232,6 @@ leaves_on link unit u1 u2 u3 r0 r1 r2 r3 name name' queue client' l0 l2 l3 h0 h2
     all : HasHeard unit u3 r0 r3 l0 l3 words
     all = heard_on unit u2 u3 r0 r2 r3 l0 l2 l3 [] words (heard_still unit u2 r0 r2 l0 l2 (same2 ∙ same1) still2 client2 lines) (hears ready.0 ready.1)
 
-    may : AreMay r0.client u3.pending.items
-    may = may_all r0.client words (talk_of unit) (talk_of u3) (length (taken_now r0.queue)) all.heard calm.asked calm.pending
-
     servable : (request : Request) (rest : List Request) → u3.pending.items ≡ request ∷ rest → IsServable u3 r3 link request rest
     servable request rest is = record {
       alone = calm.calm.alone;
@@ -243,7 +239,7 @@ leaves_on link unit u1 u2 u3 r0 r1 r2 r3 name name' queue client' l0 l2 l3 h0 h2
       registered = all.registered ∙ calm.calm.registered;
       pending = is;
       stage = all.stage calm.stage;
-      may = may_known r0.client r3.client request.address all.window (All-head (λ r. MayWriteAnswer r0.client r.address) request rest (subst (AreMay r0.client) is may));
+      may = λ asked. may_known r0.client r3.client request.address all.window (calm.next (talk_of u3) request rest all.heard is asked);
       slots = slots_left r0.queue r3.queue 1 (replies words) all.place all.partner all.put calm.slots;
     }
 

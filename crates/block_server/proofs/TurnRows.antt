@@ -1,6 +1,5 @@
 -- What a turn in which nothing is amiss adds to the rows.
 use Rattle.std.proofs.Common.{◌≡◌, inl, inr, ℕ, Bool, List, [], ◌∷◌, Some, Result, Ok, Err, OnOk, length, map, slice_get, refl, sym, ◌∙◌, ap, subst}
-use Rattle.std.proofs.lemmas.List.Elements.{All-head}
 use Rattle.crq_session.specs.Answered.{taken_now}
 use Rattle.crq_session.specs.EndState.{EndState}
 use Rattle.vio_num.specs.declared.history.Grant.{Grant}
@@ -10,11 +9,11 @@ use Rattle.vio_num.specs.declared.names.UnitId.{UnitId}
 use Rattle.block_server.specs.Bearing.{Question, question_of}
 use Rattle.block_server.specs.Judged.{gets_row}
 use Rattle.block_server.specs.RowsOn.{AddsFor, KeepsIdleRows, RowsOn}
-use Rattle.block_server.specs.Talk.{FitOneTurn, HasHeard, HearsAll, IsListening, IsServable, IsTurnReady, MayWriteAnswer, Reach, Replies, Talk, Word, replies, talk_of}
+use Rattle.block_server.specs.Talk.{FitOneTurn, HasHeard, HearsAll, IsListening, IsServable, IsTurnReady, Reach, Replies, Talk, Word, replies, talk_of}
 use Rattle.block_server.specs.declared.request.Request.{Request}
 use Rattle.block_server.specs.declared.unit.Unit.{Unit}
 use Rattle.block_server.proofs.Listening.{heard_on}
-use Rattle.block_server.proofs.Talks.{AreMay, heard_still, may_all, may_known, ready_on, slots_left}
+use Rattle.block_server.proofs.Talks.{heard_still, may_known, ready_on, slots_left}
 use Rattle.block_server.proofs.TurnRanges.{first_asks, found_same, no_first, none_alike, pending_alike}
 
 -- a request that bears the same tag and asks the same gets such a row
@@ -76,9 +75,6 @@ rows_on link unit u1 u2 u3 r0 r1 r2 r3 l0 l2 l3 h0 h2 h3 h4 words (Ok done) calm
     all : HasHeard unit u3 r0 r3 l0 l3 words
     all = heard_on unit u2 u3 r0 r2 r3 l0 l2 l3 [] words (heard_still unit u2 r0 r2 l0 l2 same still2 client2 lines) (hears ready.0 ready.1)
 
-    may : AreMay r0.client u3.pending.items
-    may = may_all r0.client words (talk_of unit) (talk_of u3) (length (taken_now r0.queue)) all.heard calm.asked calm.pending
-
     servable : (request : Request) (rest : List Request) → u3.pending.items ≡ request ∷ rest → IsServable u3 r3 link request rest
     servable request rest is = record {
       alone = calm.calm.alone;
@@ -86,7 +82,7 @@ rows_on link unit u1 u2 u3 r0 r1 r2 r3 l0 l2 l3 h0 h2 h3 h4 words (Ok done) calm
       registered = all.registered ∙ calm.calm.registered;
       pending = is;
       stage = all.stage calm.stage;
-      may = may_known r0.client r3.client request.address all.window (All-head (λ r. MayWriteAnswer r0.client r.address) request rest (subst (AreMay r0.client) is may));
+      may = λ asked. may_known r0.client r3.client request.address all.window (calm.next (talk_of u3) request rest all.heard is asked);
       slots = slots_left r0.queue r3.queue 1 (replies words) all.place all.partner all.put calm.slots;
     }
 

@@ -1,6 +1,12 @@
 -- What a turn of a unit does, whatever comes, where nobody else has a hand in the link or in the client's window: small steps, one behind the
 -- other.
-use Rattle.std.specs.Prelude.{◌≡◌, ◌≢◌, ◌⊎◌, ◌++◌, ℕ, Bool, true, false, ⊤, All, List, [], ◌∷◌, Option, Some, None, length, slice_get}
+use Rattle.std.specs.Prelude.{◌≡◌, ◌≢◌, ◌⊎◌, ◌++◌, ◌&&◌, ℕ, Bool, true, false, ⊤, List, [], ◌∷◌, Option, Some, None, MatchOption, length, map, slice_get, if◌then◌else◌}
+use Rattle.vio_num.specs.Entry.{first_byte, initialize, kind_of, partner_freed}
+use Rattle.vio_num.specs.declared.entry.Kind.TheVariants.{Command, Event, Init}
+use Rattle.crq_session.specs.Handshake.{state_after, step_after, step_entry}
+use Rattle.crq_session.specs.declared.handshake.Handshake.{Handshake}
+use Rattle.crq_session.specs.declared.handshake.Handshake.TheVariants.{Down, Up, Waiting}
+use Rattle.block_server.specs.Entries.{datagram_answer}
 use Rattle.vio_num.specs.Entry.{is_srp_entry, iu_address, iu_length, srp_entry}
 use Rattle.vio_num.specs.declared.entry.Entry.{Entry}
 use Rattle.vio_num.specs.declared.history.Grant.{Grant}
@@ -27,6 +33,7 @@ use Rattle.block_server.specs.declared.line.Kept.{Kept}
 use Rattle.block_server.specs.declared.line.Kept.TheVariants as keeps
 use Rattle.block_server.specs.declared.records.Records.{Records}
 use Rattle.block_server.specs.declared.request.Arrival.{Arrival}
+use Rattle.block_server.specs.declared.request.Order.{Order}
 use Rattle.block_server.specs.declared.request.Order.TheVariants as orders
 use Rattle.block_server.specs.declared.request.Request.{Request}
 use Rattle.block_server.specs.declared.service.Outcome.{Outcome}
@@ -57,8 +64,14 @@ pub record Doing : Type 0 where
   pub client : PortState
   pub rows : List Served
   pub lines : List Grant
-  -- whether nothing more is taken in the session
+  -- whether nothing more is taken in the session, how far the initialisation has come, and the event that is kept until the client's queue has room
   pub ended : Bool
+  pub handshake : Handshake
+  pub event : Option Entry
+  -- whether an entry can reach the client's queue: both are registered; whether the client's is; and in which session of it
+  pub reaches : Bool
+  pub partner : Bool
+  pub to : ℕ
 
 abbrev pub doing_at : Unit → (name : UnitId) → EndState → PortState → (rows : List Served) → (lines : List Grant) → Doing
 doing_at unit name queue client rows lines = record {
@@ -76,6 +89,11 @@ doing_at unit name queue client rows lines = record {
   rows = rows;
   lines = lines;
   ended = is_ended unit.line;
+  handshake = unit.line.handshake;
+  event = queue.kept;
+  reaches = queue.registered && queue.place.partner_registered;
+  partner = queue.place.partner_registered;
+  to = queue.counts.partner_session;
 }
 
 abbrev pub doing : Unit → SiteState → Records → Doing
@@ -93,17 +111,42 @@ KeepsNoAnswer (Some (keeps.Answer entry outcome)) = ⊥
 KeepsNoAnswer (Some (keeps.Reply entry)) = is_srp_entry entry ≡ false
 KeepsNoAnswer None = ⊤
 
--- Entries were put none of which is an SRP entry.
-pub record PutsNoAnswer (old new : List PipeRow) : Type 0 where
-  pub more : List PipeRow
-  pub put : new ≡ old ++ more
-  pub none : All (λ row. is_srp_entry row.entry ≡ false) more
+-- rows of a session of the client's queue
+abbrev pub rows_to : (session : ℕ) → List Entry → List PipeRow
+rows_to session entries = map (λ entry. record { session = session; entry = entry }) entries
 
--- What stays in each step: who it is, and how many requests a login grants.
+-- These were put, if they can reach the client's queue; else they are lost.
+abbrev pub Sends : (old new : Doing) → List Entry → Type 0
+Sends old new entries = new.sent ≡ old.sent ++ (if old.reaches then rows_to old.to entries else [])
+
+-- An entry that answers no request was put, or lost; or it found the client's queue full, and is kept.
+abbrev pub SendsOrKeeps : (old new : Doing) → Entry → Type 0
+SendsOrKeeps old new entry = (Sends old new (entry ∷ []) × (new.kept ≡ old.kept)) ⊎ ((old.reaches ≡ true) × (new.sent ≡ old.sent) × (new.kept ≡ Some (keeps.Reply entry)))
+
+-- what is put of the event that was kept, if one was: it, where the client's queue is registered
+abbrev pub event_put : (partner : Bool) → Option Entry → List Entry
+event_put partner None = []
+event_put partner (Some entry) = if partner then entry ∷ [] else []
+
+-- A request is taken where this login is on (0: none): one that asks for a login in any case, each other where one is.
+abbrev pub IsOnLogin : Order → (current : ℕ) → Type 0
+IsOnLogin (orders.Login request) current = ⊤
+IsOnLogin order current = current ≢ 0
+
+-- What stays in each step: who it is, how many requests a login grants, the session of the client's queue, and whether that is registered.
 pub record StaysUnit (old new : Doing) : Type 0 where
   pub name : new.name ≡ old.name
   pub id : new.id ≡ old.id
   pub granted : new.logins.granted ≡ old.logins.granted
+  pub partner : new.partner ≡ old.partner
+  pub to : new.to ≡ old.to
+
+-- The unit's side of the link is as it was.
+pub record StaysLine (old new : Doing) : Type 0 where
+  pub ended : new.ended ≡ old.ended
+  pub handshake : new.handshake ≡ old.handshake
+  pub event : new.event ≡ old.event
+  pub reaches : new.reaches ≡ old.reaches
 
 -- Neither the rows, nor what the window shows, nor what was put changed.
 pub record StaysPut (old new : Doing) : Type 0 where
@@ -117,33 +160,131 @@ pub record StaysServed (old new : Doing) : Type 0 where
   pub answer : new.answer ≡ old.answer
   pub pending : new.pending ≡ old.pending
 
--- What a step did to the queues: entries of the initialisation, an event or the answer to a datagram was put, or kept, or found the partner's
--- queue closed; the own queue was freed, or registered anew, with nothing to come.
-pub record StepsAside (old new : Doing) : Type 0 where
-  pub stays : StaysUnit old new
+-- Neither the login that is on, nor the rows, the window, or the lines changed.
+pub record StaysAside (old new : Doing) : Type 0 where
   pub served : StaysServed old new
   pub logins : new.logins ≡ old.logins
-  pub kept : (new.kept ≡ old.kept) ⊎ (KeepsNoAnswer old.kept × KeepsNoAnswer new.kept)
-  pub coming : (new.coming ≡ old.coming) ⊎ (new.coming ≡ [])
-  pub sent : PutsNoAnswer old.sent new.sent
+  pub waiting : new.waiting ≡ old.waiting
   pub client : StaysKnown old.client new.client
   pub rows : new.rows ≡ old.rows
   pub lines : new.lines ≡ old.lines
 
--- The next entry was heard, and asks nothing.
-pub record PassesEntry (old new : Doing) : Type 0 where
+-- Calls were made that change nothing of this.
+pub record CallsOnly (old new : Doing) : Type 0 where
   pub stays : StaysUnit old new
-  pub put : StaysPut old new
-  pub served : StaysServed old new
+  pub aside : StaysAside old new
+  pub line : StaysLine old new
   pub kept : new.kept ≡ old.kept
-  pub current : new.logins.current ≡ old.logins.current
+  pub coming : new.coming ≡ old.coming
+  pub sent : new.sent ≡ old.sent
+
+-- The event that was kept, if one was, was put, or lost where the client's queue is not registered.
+pub record SettlesEvent (old new : Doing) : Type 0 where
+  pub stays : StaysUnit old new
+  pub aside : StaysAside old new
+  pub kept : new.kept ≡ old.kept
+  pub coming : new.coming ≡ old.coming
+  pub ended : new.ended ≡ old.ended
+  pub handshake : new.handshake ≡ old.handshake
+  pub reaches : new.reaches ≡ old.reaches
+  pub event : new.event ≡ None
+  pub sent : new.sent ≡ old.sent ++ rows_to old.to (event_put old.partner old.event)
+
+-- Both queues were registered: the event that the own one is free was put, or found the client's full, and is kept.
+pub record TellsPartner (old new : Doing) : Type 0 where
+  pub reaches : old.reaches ≡ true
+  pub told : ((new.sent ≡ old.sent ++ rows_to old.to (partner_freed ∷ [])) × (new.event ≡ None)) ⊎ ((new.sent ≡ old.sent) × (new.event ≡ Some partner_freed))
+
+-- One was not: nothing was put. If it was the own one, what is kept is as before; if it was the client's alone, nothing is kept.
+pub record TellsNobody (old new : Doing) : Type 0 where
+  pub reaches : old.reaches ≡ false
+  pub sent : new.sent ≡ old.sent
+  pub event : (new.event ≡ old.event) ⊎ ((old.partner ≡ false) × (new.event ≡ None))
+
+-- A session that is over was freed; an event tells so, where both queues were registered.
+pub record FreesLine (old new : Doing) : Type 0 where
+  pub stays : StaysUnit old new
+  pub aside : StaysAside old new
+  pub kept : new.kept ≡ old.kept
+  pub coming : new.coming ≡ old.coming
+  pub over : old.ended ≡ true
+  pub ended : new.ended ≡ true
+  pub handshake : new.handshake ≡ Down
+  pub shut : new.reaches ≡ false
+  pub tells : TellsPartner old new ⊎ TellsNobody old new
+
+-- The queue was registered, in a session in which nothing is to come, once the event that was kept, if one was, was put, or lost where the client's
+-- queue is not registered; and Initialize was sent.
+pub record OpensLine (old new : Doing) : Type 0 where
+  pub stays : StaysUnit old new
+  pub aside : StaysAside old new
+  pub was : old.handshake ≡ Down
+  pub coming : new.coming ≡ []
+  pub ended : new.ended ≡ false
+  pub handshake : new.handshake ≡ Waiting
+  pub event : new.event ≡ None
+  pub sent : ((new.sent ≡ (old.sent ++ rows_to old.to (event_put old.partner old.event)) ++ (if new.reaches then rows_to old.to (initialize ∷ []) else [])) × (new.kept ≡ old.kept))
+      ⊎ ((new.sent ≡ old.sent ++ rows_to old.to (event_put old.partner old.event)) × (new.kept ≡ Some (keeps.Reply initialize)))
+
+-- The entry that was kept and answers no request was put, or lost.
+pub record SendsKept (old new : Doing) : Type 0 where
+  pub stays : StaysUnit old new
+  pub aside : StaysAside old new
+  pub line : StaysLine old new
+  pub coming : new.coming ≡ old.coming
+  pub entry : Entry
+  pub was : old.kept ≡ Some (keeps.Reply entry)
+  pub kept : new.kept ≡ None
+  pub sent : Sends old new (entry ∷ [])
+
+-- A reply was sent, and nothing else was done.
+pub record SendsReply (old new : Doing) (entry : Entry) : Type 0 where
+  pub stays : StaysUnit old new
+  pub aside : StaysAside old new
+  pub line : StaysLine old new
+  pub coming : new.coming ≡ old.coming
+  pub sent : SendsOrKeeps old new entry
+
+-- An entry of the initialisation was heard, and what is due for it was sent.
+pub record HearsInit (old new : Doing) : Type 0 where
+  pub stays : StaysUnit old new
+  pub aside : StaysAside old new
   pub entry : Entry
   pub heard : old.coming ≡ entry ∷ new.coming
-  pub lines : new.lines ≡ old.lines
+  pub kind : kind_of (first_byte entry) ≡ Init
+  pub handshake : new.handshake ≡ state_after old.handshake entry
+  pub ended : new.ended ≡ old.ended
+  pub event : new.event ≡ old.event
+  pub reaches : new.reaches ≡ old.reaches
+  pub sent : MatchOption (step_entry (step_after old.handshake entry)) ((new.sent ≡ old.sent) × (new.kept ≡ old.kept)) (SendsOrKeeps old new)
 
--- An SRP entry was heard: its information unit was read at its address, as the window shows it, and is a request that is pending behind all.
+-- A management datagram was heard, and answered.
+pub record HearsDatagram (old new : Doing) : Type 0 where
+  pub stays : StaysUnit old new
+  pub aside : StaysAside old new
+  pub line : StaysLine old new
+  pub entry : Entry
+  pub heard : old.coming ≡ entry ∷ new.coming
+  pub kind : kind_of (first_byte entry) ≡ Command
+  pub sent : SendsOrKeeps old new (datagram_answer entry.low)
+
+-- Another entry was heard, or one whose information unit is not for a server: nothing is due for it.
+pub record PassesEntry (old new : Doing) : Type 0 where
+  pub stays : StaysUnit old new
+  pub aside : StaysAside old new
+  pub line : StaysLine old new
+  pub kept : new.kept ≡ old.kept
+  pub sent : new.sent ≡ old.sent
+  pub entry : Entry
+  pub heard : old.coming ≡ entry ∷ new.coming
+  pub no_init : kind_of (first_byte entry) ≢ Init
+  pub no_event : kind_of (first_byte entry) ≢ Event
+
+-- An SRP entry was heard, in a session that goes on: its information unit was read at its address, as the window shows it, and is a request that is
+-- pending behind all.
 pub record TakesRequest (old new : Doing) : Type 0 where
   pub stays : StaysUnit old new
+  pub line : StaysLine old new
   pub put : StaysPut old new
   pub stage : new.stage ≡ old.stage
   pub answer : new.answer ≡ old.answer
@@ -152,22 +293,37 @@ pub record TakesRequest (old new : Doing) : Type 0 where
   pub entry : Entry
   pub heard : old.coming ≡ entry ∷ new.coming
   pub srp : is_srp_entry entry ≡ true
+  pub up : old.handshake ≡ Up
+  pub going : old.ended ≡ false
   pub request : Request
+  pub logged : IsOnLogin request.order old.logins.current
   pub address : request.address ≡ iu_address entry
   pub long : length request.unit.items ≡ iu_length entry
   pub read : IsReadWhole old.client request.address request.unit.items
   pub pending : new.pending ≡ old.pending ++ request ∷ []
   pub lines : new.lines ≡ old.lines
 
--- A login, or the session, ended: nothing is pending, kept or in service; an entry that was to be fetched is not any more.
+-- An event was heard.
+pub record IsLostBy (old new : Doing) : Type 0 where
+  pub entry : Entry
+  pub heard : old.coming ≡ entry ∷ new.coming
+  pub kind : kind_of (first_byte entry) ≡ Event
+  pub handshake : new.handshake ≡ state_after old.handshake entry
+  pub ended : new.ended ≡ old.ended
+
+-- A login, or the session, ended: nothing is pending, kept or in service. Either an event was heard that says that the partner is gone; or the session
+-- is over, for an entry that was heard or an answer. An answer that was written is never dropped.
 pub record DropsAll (old new : Doing) : Type 0 where
   pub stays : StaysUnit old new
+  pub event : new.event ≡ old.event
+  pub reaches : new.reaches ≡ old.reaches
+  pub why : IsLostBy old new ⊎ ((new.ended ≡ true) × (new.handshake ≡ old.handshake) × ((new.coming ≡ old.coming) ⊎ ((entry : Entry) × (old.coming ≡ entry ∷ new.coming))))
   pub put : StaysPut old new
+  pub unanswered : (outcome : Outcome) → old.stage ≢ stages.Entry outcome
   pub stage : new.stage ≡ stages.Start
   pub kept : new.kept ≡ None
   pub pending : new.pending ≡ []
   pub current : new.logins.current ≡ 0
-  pub coming : (new.coming ≡ old.coming) ⊎ ((entry : Entry) × (old.coming ≡ entry ∷ new.coming))
   pub cause : Lapse
   pub session : ℕ
   pub outstanding : ℕ
@@ -177,6 +333,7 @@ pub record DropsAll (old new : Doing) : Type 0 where
 -- The login ended, since the oldest request asks for that.
 pub record LogsOutFirst (old new : Doing) : Type 0 where
   pub stays : StaysUnit old new
+  pub line : StaysLine old new
   pub put : StaysPut old new
   pub first : old.stage ≡ stages.Start
   pub stage : new.stage ≡ stages.Start
@@ -193,6 +350,7 @@ pub record LogsOutFirst (old new : Doing) : Type 0 where
 -- its row, if it gets one.
 pub record Prepares (old new : Doing) : Type 0 where
   pub stays : StaysUnit old new
+  pub line : StaysLine old new
   pub first : old.stage ≡ stages.Start
   pub outcome : Outcome
   pub stage : new.stage ≡ stages.Answer outcome
@@ -215,6 +373,7 @@ pub record Prepares (old new : Doing) : Type 0 where
 -- The answer was written over the oldest request.
 pub record WritesAnswer (old new : Doing) : Type 0 where
   pub stays : StaysUnit old new
+  pub line : StaysLine old new
   pub outcome : Outcome
   pub first : old.stage ≡ stages.Answer outcome
   pub stage : new.stage ≡ stages.Entry outcome
@@ -239,6 +398,7 @@ entry_for request answer = srp_entry (length answer) request.tag
 
 -- It found the client's queue full, and is kept.
 pub record KeepsEntry (old new : Doing) : Type 0 where
+  pub reaches : old.reaches ≡ true
   pub outcome : Outcome
   pub first : old.stage ≡ stages.Entry outcome
   pub was : KeepsNoAnswer old.kept
@@ -246,6 +406,7 @@ pub record KeepsEntry (old new : Doing) : Type 0 where
   pub rest : List Request
   pub pending : old.pending ≡ request ∷ rest
   pub stays : StaysUnit old new
+  pub line : StaysLine old new
   pub put : StaysPut old new
   pub served : StaysServed old new
   pub kept : new.kept ≡ Some (keeps.Answer (entry_for request old.answer) outcome)
@@ -261,6 +422,8 @@ SettlesLines outcome id granted lines lines' = lines' ≡ lines
 -- It was put, and the request is served: its login begins, or its row has its answer.
 pub record PutsEntry (old new : Doing) : Type 0 where
   pub stays : StaysUnit old new
+  pub line : StaysLine old new
+  pub reaches : old.reaches ≡ true
   pub outcome : Outcome
   pub first : old.stage ≡ stages.Entry outcome
   pub stage : new.stage ≡ stages.Start
@@ -269,15 +432,16 @@ pub record PutsEntry (old new : Doing) : Type 0 where
   pub client : StaysKnown old.client new.client
   pub request : Request
   pub pending : old.pending ≡ request ∷ new.pending
-  pub to : ℕ
-  pub sent : new.sent ≡ old.sent ++ record { session = to; entry = entry_for request old.answer } ∷ []
+  pub sent : Sends old new (entry_for request old.answer ∷ [])
   pub rows : SettlesRow outcome old.answer old.rows new.rows
   pub lines : SettlesLines outcome old.id old.logins.granted old.lines new.lines
 
 -- It met a closed queue: the request is served, and nobody is told.
 pub record LosesEntry (old new : Doing) : Type 0 where
   pub stays : StaysUnit old new
+  pub line : StaysLine old new
   pub put : StaysPut old new
+  pub reaches : old.reaches ≡ false
   pub outcome : Outcome
   pub first : old.stage ≡ stages.Entry outcome
   pub stage : new.stage ≡ stages.Start
@@ -291,7 +455,13 @@ pub record LosesEntry (old new : Doing) : Type 0 where
 -- one of these
 abbrev pub DoesOne : (old new : Doing) → Type 0
 DoesOne old new =
-    StepsAside old new
+    CallsOnly old new
+    ⊎ (SettlesEvent old new
+    ⊎ (FreesLine old new
+    ⊎ (OpensLine old new
+    ⊎ (SendsKept old new
+    ⊎ (HearsInit old new
+    ⊎ (HearsDatagram old new
     ⊎ (PassesEntry old new
     ⊎ (TakesRequest old new
     ⊎ (DropsAll old new
@@ -299,7 +469,7 @@ DoesOne old new =
     ⊎ (Prepares old new
     ⊎ (WritesAnswer old new
     ⊎ (KeepsEntry old new
-    ⊎ (PutsEntry old new ⊎ LosesEntry old new))))))))
+    ⊎ (PutsEntry old new ⊎ LosesEntry old new))))))))))))))
 
 -- SEVERAL -----------------------------------------------------------------------------------------
 
@@ -321,6 +491,10 @@ pub record IsFree (at : Doing) : Type 0 where
 -- The same before an entry was heard that is being judged.
 abbrev pub before_hearing : Arrival → Doing → Doing
 before_hearing arrival at = record at { coming = arrival.entry ∷ at.coming; waiting = None }
+
+-- The same as its queue was registered.
+abbrev pub begun : Doing → Doing
+begun at = record at { ended = false; handshake = Waiting }
 
 -- Steps lead there.
 pub record DoesFreely (old new : Doing) : Type 0 where

@@ -49,7 +49,9 @@ pub mod Stage
 pub mod Standing
 pub mod Steps
 pub mod Talk
+pub mod TurnLeaves
 pub mod TurnReady
+pub mod TurnStock
 pub mod TurnTold
 pub mod Turns
 pub mod Units

@@ -394,15 +394,15 @@ pub record CopiesAnswer (unit unit' : Unit) (lines lines' : List Grant) (outcome
   pub logins : unit'.logins ≡ unit.logins
   pub lines_are : lines' ≡ lines
 
--- the oldest of the requests that are pending, and what is known of it: its answer may be written over it, there is room for the entry
--- of that, and its service has not begun
+-- the oldest of the requests that are pending, and what is known of it: unless it asks for a logout, its answer may be written over it;
+-- there is room for the entry of that, and its service has not begun
 pub record IsServable (unit : Unit) (site : Reach) (link_shared : Bool) (request : Request) (rest : List Request) : Type 0 where
   pub alone : link_shared ≡ false
   pub apart : site.shared ≡ false
   pub registered : site.queue.registered ≡ true
   pub pending : unit.pending.items ≡ request ∷ rest
   pub stage : unit.service.stage ≡ stages.Start
-  pub may : MayWriteAnswer site.client request.address
+  pub may : request.order ≢ orders.Logout → MayWriteAnswer site.client request.address
   pub slots : HasRoomFor site.queue 1
 
 -- It is served no more, and the unit's side of the link is as before.
@@ -445,20 +445,19 @@ ServesFirst unit unit' old new lines lines' request =
 
 -- THE TURN ---------------------------------------------------------------------------------------
 
--- An answer may be written over the request that a word asks.
-abbrev pub MayWriteOver : PortState → Word → Type 0
-MayWriteOver client (asks address bytes iu) = MayWriteAnswer client address
-MayWriteOver client word = ⊤
+-- An answer may be written over the request that is the oldest once these words are heard, unless that asks for a logout.
+abbrev pub MayAnswerNext : (unit : Unit) → Reach → List Word → Type 0
+MayAnswerNext unit at words = (talk : Talk) (request : Request) (rest : List Request) → HearsAll (talk_of unit) (length (taken_now at.queue)) words talk
+    → talk.pending ≡ request ∷ rest → request.order ≢ orders.Logout → MayWriteAnswer at.client request.address
 
 -- What is so of a unit before a turn in which nothing is amiss: these words are to come, in order, no more than a turn takes; no event is
--- kept; no service has begun; an answer may be written over each request that is pending or to come, and there is room for one.
+-- kept; no service has begun; an answer may be written over the request that the turn is to serve, and there is room for one.
 pub record IsTurnReady (unit : Unit) (at : Reach) (link_shared : Bool) (words : List Word) : Type 0 where
   pub calm : IsListening unit at link_shared words
   pub event : at.queue.kept ≡ None
   pub few : FitOneTurn unit at words
   pub stage : unit.service.stage ≡ stages.Start
-  pub pending : All (λ request. MayWriteAnswer at.client request.address) unit.pending.items
-  pub asked : All (MayWriteOver at.client) words
+  pub next : MayAnswerNext unit at words
   pub slots : HasRoomFor at.queue (length (replies words) + 1)
 
 -- Nothing was pending, and nothing was served.

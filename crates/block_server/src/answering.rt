@@ -1,5 +1,5 @@
 // Answering: what is put into the client's queue, and what ends a login.
-ghost use Rattle.block_server.specs.Doings.{DoesOne, DoesTurn, DropsAll, IsAtRest, KeepsNoAnswer, StepsAside, WritesAnswer, doing};
+ghost use Rattle.block_server.specs.Doings.{DoesOne, DoesTurn, DropsAll, IsAtRest, SendsReply, WritesAnswer, doing};
 ghost use Rattle.block_server.specs.Talk.{CopiesAnswer, HasRoomFor, IsAnswerAt, IsReplied, LogsOut, MayWriteAnswer, PutsAnswer, SettlesLogins, StaysKnown, reach_of, settled_lines};
 ghost use Rattle.std.specs.Prelude.{◌≡◌, ◌≢◌, ◌⊎◌, ◌+◌, ◌<◌, ◌∷◌, ◌++◌, ℕ, Bool, List, None, Some, IfOk, OnOk, drop, false, length, slice_get, true};
 ghost use Rattle.block_server.specs.Advances.{Advances};
@@ -80,9 +80,8 @@ pub(crate) fn put_reply<S: Site>(unit: &mut Unit, site: &mut S, reply: Entry) ->
         (reach_of (S.state site.old)) (reach_of (S.state site.new)) reply }
     ensures event { (S.state site.new).queue.kept ≡ (S.state site.old).queue.kept }
     ensures service { unit.new.service ≡ unit.old.service }
-    ensures aside { (records : Records) → S.link_shared ≡ false → KeepsNoAnswer
-        unit.old.line.kept → StepsAside (doing unit.old (S.state site.old) records) (doing
-        unit.new (S.state site.new) records) }
+    ensures aside { (records : Records) → S.link_shared ≡ false → SendsReply (doing unit.old
+        (S.state site.old) records) (doing unit.new (S.state site.new) records) reply }
 {
     match site.send(reply) {
         SendAnswer::Dropped { .. } => {

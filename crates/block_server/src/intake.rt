@@ -146,7 +146,8 @@ pub(crate) fn take_in<S: Site>(
         HasHeardAll unit.new (S.state site.new).queue) }
     ensures rows { KeepsIdleRows unit.old.service.stage unit.new.service.stage
         records.old.history.items records.new.history.items }
-    ensures does { S.link_shared ≡ false → (S.state site.old).shared ≡ false → IsFree (doing
+    ensures does { S.link_shared ≡ false → (S.state site.old).shared ≡ false → is_ended
+        unit.old.line ≡ false → IsFree (doing
         unit.old (S.state site.old) records.old) → OnOk result (DoesFreely (doing unit.old
         (S.state site.old) records.old) (doing unit.new (S.state site.new) records.new)) }
     ensures goes { S.link_shared ≡ false → (S.state site.old).shared ≡ false →
@@ -212,7 +213,8 @@ fn receive_waiting<S: Site>(
         OnOk result (records.new.grants.items ≡ records.old.grants.items) }
     ensures rows { KeepsIdleRows unit.old.service.stage unit.new.service.stage
         records.old.history.items records.new.history.items }
-    ensures does { S.link_shared ≡ false → (S.state site.old).shared ≡ false → IsFree (doing
+    ensures does { S.link_shared ≡ false → (S.state site.old).shared ≡ false → is_ended
+        unit.old.line ≡ false → IsFree (doing
         unit.old (S.state site.old) records.old) → OnOk result (DoesFreely (doing unit.old
         (S.state site.old) records.old) (doing unit.new (S.state site.new) records.new)) }
     ensures goes { (S.state site.old).shared ≡ false → is_ended unit.old.line ≡ false →
@@ -301,7 +303,8 @@ fn take_one<S: Site>(unit: &mut Unit, site: &mut S, records: &mut Records) -> Re
         records.old.grants.items records.new.grants.items words) }
     ensures rows { KeepsIdleRows unit.old.service.stage unit.new.service.stage
         records.old.history.items records.new.history.items }
-    ensures does { S.link_shared ≡ false → (S.state site.old).shared ≡ false → IsFree (doing
+    ensures does { S.link_shared ≡ false → (S.state site.old).shared ≡ false → is_ended
+        unit.old.line ≡ false → IsFree (doing
         unit.old (S.state site.old) records.old) → OnOk result (DoesFreely (doing unit.old
         (S.state site.old) records.old) (doing unit.new (S.state site.new) records.new)) }
     ensures goes { (S.state site.old).shared ≡ false → is_ended unit.old.line ≡ false →
@@ -383,7 +386,8 @@ fn take_command<S: Site>(
         records.old.grants.items records.new.grants.items arrival.number address bytes iu) }
     ensures rows { KeepsIdleRows unit.old.service.stage unit.new.service.stage
         records.old.history.items records.new.history.items }
-    ensures does { S.link_shared ≡ false → (S.state site.old).shared ≡ false → first_byte
+    ensures does { S.link_shared ≡ false → (S.state site.old).shared ≡ false → is_ended
+        unit.old.line ≡ false → first_byte
         arrival.entry ≡ 0x80 → unit.old.waiting ≡ None → IsFree (before_hearing arrival (doing
         unit.old (S.state site.old) records.old)) → OnOk result (DoesFreely (before_hearing
         arrival (doing unit.old (S.state site.old) records.old)) (doing unit.new (S.state
@@ -451,7 +455,8 @@ fn receive<S: Site>(
         records.old.grants.items records.new.grants.items arrival.number address bytes iu) }
     ensures rows { KeepsIdleRows unit.old.service.stage unit.new.service.stage
         records.old.history.items records.new.history.items }
-    ensures does { S.link_shared ≡ false → (S.state site.old).shared ≡ false → is_srp_entry
+    ensures does { S.link_shared ≡ false → (S.state site.old).shared ≡ false → is_ended
+        unit.old.line ≡ false → is_srp_entry
         arrival.entry ≡ true → IsFree (before_hearing arrival (doing unit.old (S.state site.old)
         records.old)) → OnOk result (DoesFreely (before_hearing arrival (doing unit.old (S.state
         site.old) records.old)) (doing unit.new (S.state site.new) records.new)) }
@@ -527,11 +532,11 @@ fn judge(
     ensures rows { KeepsIdleRows unit.old.service.stage unit.new.service.stage
         records.old.history.items records.new.history.items }
     ensures does { (before : SiteState) → (site : SiteState) → is_srp_entry arrival.entry ≡ true
-        → unit.old.service.stage ≡ Stage.Start → length bytes.now ≡ iu_length arrival.entry →
-        StaysKnown before.client site.client → site.queue ≡ before.queue → site.own.place.unit ≡
-        before.own.place.unit → IsReadWhole before.client (iu_address arrival.entry) bytes.now →
-        DoesOne (before_hearing arrival (doing unit.old before records.old)) (doing unit.new site
-        records.new) }
+        → unit.old.waiting ≡ None → unit.old.line.handshake ≡ Up → is_ended unit.old.line ≡ false
+        → unit.old.service.stage ≡ Stage.Start → length bytes.now ≡ iu_length arrival.entry → StaysKnown before.client
+        site.client → site.queue ≡ before.queue → site.own.place.unit ≡ before.own.place.unit →
+        IsReadWhole before.client (iu_address arrival.entry) bytes.now → DoesOne (before_hearing
+        arrival (doing unit.old before records.old)) (doing unit.new site records.new) }
     ensures stage { unit.old.service.stage ≡ Stage.Start → unit.new.service.stage ≡ Stage.Start }
     ensures goes { result ≢ Next.End → unit.new.line ≡ unit.old.line }
 {

@@ -21,6 +21,7 @@ pub(crate) struct Logins {
     ghost counted: { target.logins ≡ last },
     ghost grants: { target.granted ≡ granted },
     ghost takes: { target.on ≡ taking },
+    ghost begun: { taking ≡ true → 1 ≤ current },
 }
 
 impl Logins {

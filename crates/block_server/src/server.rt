@@ -1,29 +1,23 @@
 // A server: its units, the disk that they serve, and what they keep for good.
 ghost use Rattle.block_server.specs.Doings.{IsAtRest, UnitDoes, doing_at};
 ghost use Rattle.block_server.specs.Talk.{AreNewUnits, IsNewThere, IsTurnReady, UnitOpensOn, Word, reach};
-ghost use Rattle.std.specs.Prelude.{◌≡◌, ◌≢◌, ◌<◌, ◌≤◌, ◌++◌, ℕ, Bool, List, [], false, IfErr, IfOk, IfSome, IsSome, OnOk, Some, slice_get, vec_len};
-ghost use Rattle.rdma_copy.specs.Copies.{side_of};
-ghost use Rattle.tce_window.specs.Port.{Later};
-ghost use Rattle.block_server.specs.Advances.{CopiesMore, Goes, KeepsFreed, PutsNow, StayNamed};
+ghost use Rattle.std.specs.Prelude.{◌≡◌, ◌<◌, ◌≤◌, Bool, List, [], false, IfErr, IfOk, OnOk, Some, slice_get, vec_len};
+ghost use Rattle.block_server.specs.Advances.{KeepsFreed};
 ghost use Rattle.block_server.specs.Cargo.{AreIdle};
 ghost use Rattle.block_server.specs.Causes.{Told, anything};
-ghost use Rattle.block_server.specs.DiskLaw.{KeepsDisk};
 ghost use Rattle.block_server.specs.Heard.{Tells};
-ghost use Rattle.block_server.specs.Judged.{Judged};
-ghost use Rattle.block_server.specs.Judges.{AreInTime, AreUnused, HasJudged};
-ghost use Rattle.block_server.specs.Makers.{AreNamed};
-ghost use Rattle.block_server.specs.Owed.{HaveAnswers, OweNone};
-ghost use Rattle.block_server.specs.OwnerStrokes.{LaysNoneOfOwner};
-ghost use Rattle.block_server.specs.Receipts.{AwaitNone, HasIntake, LinesMore, Receipt};
-ghost use Rattle.block_server.specs.Ready.{AgreesAt, AreDown, UnitWaits};
+ghost use Rattle.block_server.specs.Judges.{AreUnused};
+ghost use Rattle.block_server.specs.Owed.{OweNone};
+ghost use Rattle.block_server.specs.Receipts.{AwaitNone};
+ghost use Rattle.block_server.specs.Ready.{AreDown};
 ghost use Rattle.block_server.specs.Refusals.{ExplainNone};
-ghost use Rattle.block_server.specs.Resting.{RestsAt};
+ghost use Rattle.block_server.specs.TurnLeaves.{CopiesGoOn, KeepsServer, PortsGoOn, RequestsGoOn, RowsGoOn, SaysMoved};
 ghost use Rattle.block_server.specs.TurnReady.{TurnsReady};
-ghost use Rattle.block_server.specs.TurnTold.{GoesByTold, stock};
-ghost use Rattle.block_server.specs.Turns.{IsStill, told_of, way_of};
+ghost use Rattle.block_server.specs.TurnTold.{GoesByTold};
+ghost use Rattle.block_server.specs.Turns.{told_of};
 ghost use Rattle.block_server.specs.SiteState.{AreReady};
 ghost use Rattle.block_server.specs.Serving.{Terms};
-ghost use Rattle.block_server.specs.Units.{AnswersItsRows, AreGranting, AreInOrder, AreServing, GrantEach, ServesItsRows, grant_of};
+ghost use Rattle.block_server.specs.Units.{AreGranting, AreInOrder, AreServing, GrantEach};
 ghost use Rattle.block_server.specs.declared.unit.Unit.{Unit as UnitValue};
 
 use crate::disk::Disk;
@@ -63,6 +57,8 @@ pub struct Finished<B> {
 }
 
 impl<B: Blocks> Server<B> {
+    ghost use Rattle.block_server.specs.TurnStock.{stock_of};
+
     /// A server of this partition with so many units, from 0, at most 8. Its image has `count` blocks, and each
     /// login grants 1 to 200 requests. Want of memory hands the image back.
     pub fn open(
@@ -123,98 +119,31 @@ impl<B: Blocks> Server<B> {
         requires event { KeepsFreed (C.state crq.old) }
         requires named { (O.state own.old).place.unit ≡
             record { partition = self.old.partition; unit = unit } }
-        ensures rests { C.is_shared ≡ false → RestsAt self.old.units.items unit (C.state crq.old) →
-            IfOk result (λ moved. moved ≡ Moved.Quiet) }
-        ensures moved { IfOk result (λ moved. moved ≡ Moved.Moved →
-            ¬ (IsStill (C.state crq.old) (C.state crq.new) ×
-            (way_of self.new.units.items unit ≡ way_of self.old.units.items unit))) }
-        ensures goes { Goes (C.state crq.old) (C.state crq.new) (O.state own.old)
-            (O.state own.new) (R.state client.old) (R.state client.new) }
-        ensures values { (e : ℕ) → Later R.is_shared
-            ((R.state client.old).values e) ((R.state client.new).values e) }
-        ensures partner { C.is_shared ≡ false → (C.state crq.new).counts.partner_session ≡
-            (C.state crq.old).counts.partner_session }
-        ensures sessions { C.is_shared ≡ false → PutsNow (C.state crq.old) (C.state crq.new) }
-        ensures copies { CopiesMore (O.state own.new) (R.state client.new)
-            self.old.copies.items self.new.copies.items }
-        ensures answers { ∥ AnswersItsRows (O.state own.old).place.unit
-            (C.state crq.old) (C.state crq.new) self.old.records self.new.records ∥₁ }
-        ensures others { ∥ ServesItsRows (O.state own.old).place.unit
-            self.old.records self.new.records ∥₁ }
-        ensures disk { ∥ KeepsDisk
-            self.old.records.history.items self.new.records.history.items
-            (B.state self.old.disk.image).blocks (B.state self.new.disk.image).blocks ∥₁ }
+        ensures stays { KeepsServer unit (stock_of self.old) (stock_of self.new) }
+        ensures ports { PortsGoOn C.is_shared R.is_shared (C.state crq.old) (C.state crq.new)
+            (O.state own.old) (O.state own.new) (R.state client.old) (R.state client.new) }
+        ensures copying { CopiesGoOn R.is_shared (stock_of self.old) (stock_of self.new)
+            (O.state own.old) (O.state own.new) (R.state client.old) (R.state client.new) }
+        ensures rows { RowsGoOn (O.state own.old).place.unit
+            (stock_of self.old) (stock_of self.new) (C.state crq.old) (C.state crq.new) }
+        ensures says { SaysMoved C.is_shared R.is_shared unit
+            (stock_of self.old) (stock_of self.new) (C.state crq.old) (C.state crq.new)
+            (O.state own.old) (O.state own.new) (R.state client.old) (R.state client.new) result }
+        ensures requests { RequestsGoOn C.is_shared unit
+            (stock_of self.old) (stock_of self.new) (C.state crq.old) (C.state crq.new)
+            (O.state own.old) (O.state own.new) (R.state client.old) (R.state client.new) }
         ensures by_told { (told : Told → Bool) → Tells told (O.state own.old).place.unit
             R.is_shared (O.state own.new) (R.state client.old) (R.state client.new)
             self.old.copies.items self.new.copies.items → AreInOrder told
             self.old.disk.count self.old.partition self.old.units.items self.old.records →
             GoesByTold told C.is_shared R.is_shared unit
-            (stock self.old.disk.count self.old.partition self.old.units.items
-            self.old.records self.old.copies.items (B.state self.old.disk.image).blocks)
-            (stock self.new.disk.count self.new.partition self.new.units.items
-            self.new.records self.new.copies.items (B.state self.new.disk.image).blocks)
-            (C.state crq.old) (C.state crq.new) (O.state own.old) (O.state own.new)
-            (R.state client.old) (R.state client.new) result }
-        ensures tells { IfSome (B.state self.old.disk.image).blocks
-            (λ _. IsSome (B.state self.new.disk.image).blocks) }
-        ensures quiet { IfOk result (λ moved. moved ≡ Moved.Quiet →
-            IsStill (C.state crq.old) (C.state crq.new)) }
-        ensures way { IfOk result (λ moved. moved ≡ Moved.Quiet →
-            way_of self.new.units.items unit ≡ way_of self.old.units.items unit) }
-        ensures ready { AreReady (O.state own.new) (R.state client.new) }
-        ensures event { KeepsFreed (C.state crq.new) }
-        ensures units { vec_len self.new.units ≡ vec_len self.old.units }
-        ensures partition { self.new.partition ≡ self.old.partition }
-        ensures count { self.new.disk.count ≡ self.old.disk.count }
-        ensures owner { R.is_shared ≡ false →
-            LaysNoneOfOwner (side_of (R.state client.old)) (side_of (R.state client.new)) }
-        ensures named { StayNamed R.is_shared (R.state client.old) (R.state client.new)
-            self.old.copies.items self.new.copies.items }
-        ensures own_named { AreNamed (side_of (O.state own.old)) self.old.copies.items →
-            AreNamed (side_of (O.state own.new)) self.new.copies.items }
-        ensures agrees { AgreesAt self.old.units.items unit (C.state crq.old) →
-            AgreesAt self.new.units.items unit (C.state crq.new) }
-        ensures waits { IfOk result (λ moved. moved ≡ Moved.Quiet → AgreesAt
-            self.old.units.items unit (C.state crq.old) → UnitWaits C.is_shared R.is_shared
-            self.new.units.items unit (C.state crq.old) (C.state crq.new)
-            (O.state own.old) (O.state own.new) (R.state client.old) (R.state client.new)) }
-        ensures others_stay { (k : ℕ) → k ≢ unit →
-            slice_get self.new.units.items k ≡ slice_get self.old.units.items k }
-        ensures intake { (receipts : List Receipt) → HasIntake self.old.units.items unit
-            (O.state own.old) (R.state client.old) (C.state crq.old)
-            self.old.copies.items self.old.records.grants.items receipts →
-            ∥ ((more : List Receipt) × HasIntake self.new.units.items unit
-            (O.state own.new) (R.state client.new) (C.state crq.new)
-            self.new.copies.items self.new.records.grants.items (receipts ++ more)) ∥₁ }
-        ensures lines { ∥ LinesMore (O.state own.old).place.unit
-            (grant_of self.old.units.items unit)
-            self.old.records.grants.items self.new.records.grants.items ∥₁ }
-        ensures grants { (granted : ℕ) →
-            GrantEach granted self.old.units.items self.old.records.grants.items →
-            GrantEach granted self.new.units.items self.new.records.grants.items }
-        ensures judged { (judged : List Judged) → HasJudged self.old.units.items unit
-            (O.state own.old) (R.state client.old) (C.state crq.old) self.old.copies.items
-            self.old.records.history.items self.old.records.grants.items judged →
-            ∥ ((more : List Judged) × (HasJudged self.new.units.items unit
-            (O.state own.new) (R.state client.new) (C.state crq.new) self.new.copies.items
-            self.new.records.history.items self.new.records.grants.items (judged ++ more) ×
-            AreInTime (O.state own.old).place.unit self.old.records.grants.items more)) ∥₁ }
-        ensures answered { C.is_shared ≡ false → (judged : List Judged) → HasJudged
-            self.old.units.items unit (O.state own.old) (R.state client.old) (C.state crq.old)
-            self.old.copies.items self.old.records.history.items self.old.records.grants.items judged →
-            HaveAnswers self.old.units.items unit (O.state own.old).place.unit (C.state crq.old)
-            self.old.records.history.items self.old.records.grants.items →
-            ∥ HaveAnswers self.new.units.items unit (O.state own.old).place.unit
-            (C.state crq.new) self.new.records.history.items self.new.records.grants.items ∥₁ }
+            (stock_of self.old) (stock_of self.new) (C.state crq.old) (C.state crq.new)
+            (O.state own.old) (O.state own.new) (R.state client.old) (R.state client.new) result }
         ensures if_ready { (words : List Word) → (u : UnitValue) →
             slice_get self.old.units.items unit ≡ Some u →
             IsTurnReady u (reach (C.state crq.old) (R.state client.old) R.is_shared)
             C.is_shared words → TurnsReady R.is_shared unit u (O.state own.old).place.unit words
-            (stock self.old.disk.count self.old.partition self.old.units.items
-            self.old.records self.old.copies.items (B.state self.old.disk.image).blocks)
-            (stock self.new.disk.count self.new.partition self.new.units.items
-            self.new.records self.new.copies.items (B.state self.new.disk.image).blocks)
-            (C.state crq.old) (C.state crq.new)
+            (stock_of self.old) (stock_of self.new) (C.state crq.old) (C.state crq.new)
             (R.state client.old) (R.state client.new) result }
         ensures opens { (u : UnitValue) → slice_get self.old.units.items unit ≡ Some u →
             IsNewThere u (reach (C.state crq.old) (R.state client.old) R.is_shared)

@@ -1,9 +1,10 @@
 // The steps of a unit's turn.
-ghost use Rattle.block_server.specs.Doings.{DoesTurn, IsAtRest, KeepsNoAnswer, StepsAside, doing};
+ghost use Rattle.block_server.specs.Doings.{CallsOnly, DoesTurn, FreesLine, IsAtRest, OpensLine, SendsReply, SettlesEvent, begun, doing};
 ghost use Rattle.block_server.specs.Talk.{BeginsAlone, IsNewThere, IsTurnReady, OpensOn, OpensUnit, Replies, TalksOn, Word, reach_of};
 ghost use Rattle.crq_session.specs.Answered.{taken_now};
+ghost use Rattle.vio_num.specs.Entry.{initialize};
 ghost use Rattle.block_server.specs.Cargo.{IsAccounted, cargo_of};
-ghost use Rattle.std.specs.Prelude.{◌≡◌, ◌≢◌, ◌+◌, ◌<◌, ◌≤◌, None, Bool, IfOk, List, OnOk, [], false, true};
+ghost use Rattle.std.specs.Prelude.{◌≡◌, ◌≢◌, ◌⊎◌, ◌+◌, ◌<◌, ◌≤◌, None, Bool, IfOk, List, OnOk, [], false, true};
 ghost use Rattle.block_server.specs.Advances.{Advances};
 ghost use Rattle.block_server.specs.Books.{as_begun, books_at};
 ghost use Rattle.block_server.specs.Causes.{Told, told_to};
@@ -227,8 +228,9 @@ fn push_event<S: Site>(unit: &mut Unit, site: &mut S) -> Next
         Replies (S.state site.old).queue (S.state site.new).queue [] ×
         ((S.state site.new).client ≡ (S.state site.old).client) }
     ensures event { (S.state site.old).queue.kept ≡ None → (S.state site.new).queue.kept ≡ None }
-    ensures aside { (records : Records) → S.link_shared ≡ false → StepsAside (doing unit.old
-        (S.state site.old) records) (doing unit.new (S.state site.new) records) }
+    ensures aside { (records : Records) → S.link_shared ≡ false → CallsOnly (doing unit.old
+        (S.state site.old) records) (doing unit.new (S.state site.new) records) ⊎ SettlesEvent (doing
+        unit.old (S.state site.old) records) (doing unit.new (S.state site.new) records) }
 {
     match site.push_event() {
         EventAnswer::Nothing => Next::Entry,
@@ -269,8 +271,9 @@ fn free_closed<S: Site>(unit: &mut Unit, site: &mut S) -> Next
     ensures refuses { (records : Records) → Explains
         (ledger_of unit.old (S.state site.old) records)
         (ledger_of unit.new (S.state site.new) records) }
-    ensures aside { (records : Records) → S.link_shared ≡ false → StepsAside (doing unit.old
-        (S.state site.old) records) (doing unit.new (S.state site.new) records) }
+    ensures aside { (records : Records) → S.link_shared ≡ false → CallsOnly (doing unit.old
+        (S.state site.old) records) (doing unit.new (S.state site.new) records) ⊎ FreesLine (doing
+        unit.old (S.state site.old) records) (doing unit.new (S.state site.new) records) }
 {
     if !unit.line.closing {
         return Next::Entry;
@@ -308,8 +311,10 @@ fn free<S: Site>(unit: &mut Unit, site: &mut S) -> Next
     ensures refuses { (records : Records) → unit.old.line.closing ≡ true → Explains
         (ledger_of unit.old (S.state site.old) records)
         (ledger_of unit.new (S.state site.new) records) }
-    ensures aside { (records : Records) → S.link_shared ≡ false → StepsAside (doing unit.old
-        (S.state site.old) records) (doing unit.new (S.state site.new) records) }
+    ensures aside { (records : Records) → S.link_shared ≡ false → unit.old.line.closing ≡ true →
+        CallsOnly (doing unit.old (S.state site.old) records) (doing unit.new (S.state site.new)
+        records) ⊎ FreesLine (doing unit.old (S.state site.old) records) (doing unit.new (S.state
+        site.new) records) }
 {
     match site.free() {
         FreeAnswer::Busy { .. } => Next::End,
@@ -360,9 +365,9 @@ fn register<S: Site>(unit: &mut Unit, site: &mut S)
         (ledger_of unit.new (S.state site.new) records) }
     ensures opens { IsNewThere unit.old (reach_of (S.state site.old)) S.link_shared →
         OpensUnit unit.old unit.new (reach_of (S.state site.old)) (reach_of (S.state site.new)) }
-    ensures aside { (records : Records) → S.link_shared ≡ false → KeepsNoAnswer
-        unit.old.line.kept → StepsAside (doing unit.old (S.state site.old) records) (doing
-        unit.new (S.state site.new) records) }
+    ensures aside { (records : Records) → S.link_shared ≡ false → OpensLine (doing unit.old
+        (S.state site.old) records) (doing unit.new (S.state site.new) records) ⊎ CallsOnly (doing
+        unit.old (S.state site.old) records) (doing unit.new (S.state site.new) records) }
 {
     match site.register() {
         RegAnswer::Success => begin(unit, site),
@@ -401,9 +406,9 @@ fn begin<S: Site>(unit: &mut Unit, site: &mut S)
     ensures alone { S.link_shared ≡ false →
         (S.state site.old).queue.place.partner_registered ≡ false → BeginsAlone
         unit.old unit.new (reach_of (S.state site.old)) (reach_of (S.state site.new)) }
-    ensures aside { (records : Records) → S.link_shared ≡ false → KeepsNoAnswer
-        unit.old.line.kept → StepsAside (doing unit.old (S.state site.old) records) (doing
-        unit.new (S.state site.new) records) }
+    ensures aside { (records : Records) → S.link_shared ≡ false → SendsReply (begun (doing
+        unit.old (S.state site.old) records)) (doing unit.new (S.state site.new) records)
+        initialize }
 {
     unit.moved = true;
     if let Some(initialize) = reply_of(unit.line.handshake.registered()) {

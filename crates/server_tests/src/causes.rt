@@ -74,9 +74,9 @@ fn a_request_without_a_login_closes(rt: HostRuntime) {
     }
 }
 
-// Seen elsewhere: a unit of length 0 is served as a login. Here no login is of it (`Server::turn`, clauses `intake`: a receipt
-// has as many bytes as its entry names; and `judged`: a login has bytes that spell it). It closes the session as `badiu`,
-// which this test says.
+// Seen elsewhere: a unit of length 0 is served as a login. Here no login is of it (`Server::turn`, clause `requests`:
+// by `intake` a receipt has as many bytes as its entry names, by `judged` a login has bytes that spell it). It closes the
+// session as `badiu`, which this test says.
 #[test]
 fn a_length_that_no_unit_has_closes_without_a_copy(rt: HostRuntime) {
     for len in [0, 257, 65_535] {

@@ -64,7 +64,7 @@ static AN_ANSWER_THAT_FINDS_THE_QUEUE_FULL_IS_KEPT_SCRIPT: [Step; 11] = [
 ];
 
 // Seen elsewhere: an answer that finds the queue full is thrown away, and its credit never returns. Here the answer is
-// kept and put once (`Server::turn`, clause `answers`).
+// kept and put once (`Server::turn`, `answers` of clause `rows`).
 #[test]
 fn an_answer_that_finds_the_queue_full_is_kept(rt: HostRuntime) {
     assert_eq!(rt;

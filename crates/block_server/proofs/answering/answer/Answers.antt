@@ -46,7 +46,8 @@ use Rattle.block_server.proofs.AnswerBearing.{answer_then, settled_first}
 use Rattle.block_server.proofs.Bearing.{bears_none, bears_on, bears_same}
 use Rattle.block_server.specs.Doings.{WritesAnswer, doing}
 use Rattle.block_server.proofs.Taking.{ended_stands}
-use Rattle.block_server.proofs.DoingAnswers.{answered_none, answered_put, doing_same, turn_from}
+use Rattle.block_server.proofs.DoingAsides.{doing_same}
+use Rattle.block_server.proofs.DoingAnswers.{answered_none, answered_put, turn_from}
 use Rattle.block_server.proofs.answering.answer.Goals as goal
 
 pub returns-in_err-make_room-clause-once : goal.returns-in_err-make_room-clause-once
@@ -418,8 +419,8 @@ returns-in-Entry-clause-settles g c = λ request rest place at parts link apart 
 
 pub returns-in_default-clause-does : goal.returns-in_default-clause-does
 returns-in_default-clause-does g c = λ request rest outcome at parts link apart waiting going.
-    turn_from _ _ _ (doing_same c.args.unit.now (g.S.Site.state c.args.site.now) (g.S.Site.state c.reserve.new.self) c.args.records.now c.make_room.new.self c.reserve.ensures.advances.own_place c.reserve.ensures.rest.place
-    c.reserve.ensures.rest.last_session c.reserve.ensures.rest.taken c.reserve.ensures.rest.sent c.reserve.ensures.windows.client c.make_room.ensures.lists.history c.make_room.ensures.lists.grants)
+    turn_from _ _ _ (doing_same c.args.unit.now (g.S.Site.state c.args.site.now) (g.S.Site.state c.reserve.new.self) c.args.records.now c.make_room.new.self c.reserve.ensures.advances.own_place c.reserve.ensures.rest
+    c.reserve.ensures.windows.client c.make_room.ensures.lists.history c.make_room.ensures.lists.grants)
     (answered_none (doing c.args.unit.now (g.S.Site.state c.reserve.new.self) c.make_room.new.self) (doing c.copy_answer.new.unit (g.S.Site.state c.copy_answer.new.site) c.copy_answer.new.records)
     (λ o is. c.in_default.not-Entry o is) (c.in_ok-copy_answer.ensures.does request rest outcome at parts (c.reserve.ensures.advances.shared ∙ apart)) (c.copy_answer.ensures.waiting waiting))
 
@@ -428,8 +429,8 @@ returns-in-Entry-clause-does g c = λ request rest outcome at parts link apart w
     let a = doing c.args.unit.now (g.S.Site.state c.reserve.new.self) c.make_room.new.self in
     let m = doing c.copy_answer.new.unit (g.S.Site.state c.copy_answer.new.site) c.copy_answer.new.records in
     let stands = c.copy_answer.ensures.stands c.in-Entry.outcome c.in-Entry.is in
-    turn_from _ _ _ (doing_same c.args.unit.now (g.S.Site.state c.args.site.now) (g.S.Site.state c.reserve.new.self) c.args.records.now c.make_room.new.self c.reserve.ensures.advances.own_place c.reserve.ensures.rest.place
-    c.reserve.ensures.rest.last_session c.reserve.ensures.rest.taken c.reserve.ensures.rest.sent c.reserve.ensures.windows.client c.make_room.ensures.lists.history c.make_room.ensures.lists.grants)
+    turn_from _ _ _ (doing_same c.args.unit.now (g.S.Site.state c.args.site.now) (g.S.Site.state c.reserve.new.self) c.args.records.now c.make_room.new.self c.reserve.ensures.advances.own_place c.reserve.ensures.rest
+    c.reserve.ensures.windows.client c.make_room.ensures.lists.history c.make_room.ensures.lists.grants)
     (answered_put a m (doing c.put_answer.new.unit (g.S.Site.state c.put_answer.new.site) c.put_answer.new.records) c.in-Entry.outcome c.in-Entry.is
     (c.in_ok-copy_answer.ensures.does request rest outcome at parts (c.reserve.ensures.advances.shared ∙ apart))
     (λ (writes : WritesAnswer a m). c.put_answer.ensures.does request rest (writes.pends ∙ parts) link)

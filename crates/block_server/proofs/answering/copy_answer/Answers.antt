@@ -1,3 +1,4 @@
+use Rattle.block_server.specs.declared.line.Line.{Line}
 use Rattle.block_server.specs.Books.{books_at}
 use Rattle.block_server.proofs.Jointly.{answer_going, judges_over, keeps_refused, works, works_none, works_on}
 use Rattle.std.proofs.Common.{inl, inr, refl}
@@ -273,5 +274,5 @@ returns-in-Busy-clause-does g c = λ request rest outcome at parts alone.
 pub returns-in-Refused-clause-does : goal.returns-in-Refused-clause-does
 returns-in-Refused-clause-does g c = λ request rest outcome at parts alone.
     inr (refused_drops c.args.unit.now c.deliver.new.unit c.end_session.new.unit (g.S.Site.state c.args.site.now) (g.S.Site.state c.deliver.new.site) c.args.records.now c.end_session.new.records
-    _ _ Refused 0 0 c.end_session.ensures.ends c.deliver.ensures.id c.deliver.ensures.logins (c.in_ok-deliver.ensures.stays c.in-Refused.is) c.end_session.ensures.row c.end_session.ensures.id
-    c.end_session.ensures.stage c.deliver.ensures.queue c.deliver.ensures.advances (c.in_ok-deliver.ensures.missed c.in-Refused.is alone))
+    _ _ Refused 0 0 c.in-Answer.is c.end_session.ensures.ends c.deliver.ensures.id c.deliver.ensures.logins (c.in_ok-deliver.ensures.stays c.in-Refused.is) c.end_session.ensures.row c.end_session.ensures.id
+    c.end_session.ensures.stage c.end_session.ensures.closing (c.end_session.ensures.handshake ∙ ap (λ (l : Line). l.handshake) c.deliver.ensures.line) c.deliver.ensures.queue c.deliver.ensures.advances (c.in_ok-deliver.ensures.missed c.in-Refused.is alone))

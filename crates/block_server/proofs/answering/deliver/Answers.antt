@@ -32,7 +32,7 @@ use Rattle.block_server.proofs.LastRows.{row_same}
 use Rattle.block_server.proofs.AnswerBearing.{answer_bears}
 use Rattle.block_server.proofs.Bearing.{bears_none}
 use Rattle.block_server.proofs.Stood.{stays_after}
-use Rattle.block_server.proofs.DoingAsides.{known_equal}
+use Rattle.block_server.proofs.DoingReplies.{known_equal}
 use Rattle.block_server.specs.Ranges.{client_known}
 use Rattle.block_server.specs.declared.site.Halt.{Halt}
 use Rattle.std.proofs.Common.{Result, OnErr}

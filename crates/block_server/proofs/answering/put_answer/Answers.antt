@@ -45,6 +45,7 @@ use Rattle.block_server.proofs.Servicing.{no_front, puts_settled, puts_turned}
 use Rattle.block_server.proofs.LastRows.{settled_last}
 use Rattle.block_server.proofs.AnswerBearing.{settled_row}
 use Rattle.block_server.proofs.Servicing.{closed_off}
+use Rattle.block_server.proofs.DoingReplies.{puts_reach, reach_on, reached_dropped, reached_sent, shut_reach}
 use Rattle.block_server.proofs.DoingAnswers.{does_keep, does_lose, does_put, keeps_entry, loses_entry, puts_entry, rests_free, rests_kept}
 use Rattle.block_server.proofs.Serves.{same_sent}
 use Rattle.block_server.proofs.answering.put_answer.Goals as goal
@@ -266,24 +267,29 @@ returns-in_default-clause-does g c = λ request rest parts alone. absurd (no_fro
 pub returns-in-Success-clause-does : goal.returns-in-Success-clause-does
 returns-in-Success-clause-does g c = λ request rest parts alone.
     let front = front_is _ _ c.in-Some.ensures.item.3 in
-    does_put _ _ (puts_entry c.args.unit.now c.settle.new.unit (g.S.Site.state c.args.site.now) (g.S.Site.state c.send.new.self) c.args.records.now c.settle.new.records c.args.outcome c.in-Some.request.now front.0 _ _ c.answer_entry-entry.result
-    c.requires.stage front.1 (c.answer_entry-entry.ensures.entry ∙ ap (λ n. srp_entry n c.in-Some.request.now.tag) (c.len.ensures ∙ c.args.unit.now.service.answer.ok.0))
-    c.in-Success.ensures.success.puts.sent c.send.ensures.advances.own_place c.send.ensures.rest.place c.send.ensures.rest.last_session c.send.ensures.rest.taken c.send.ensures.windows.client
-    c.settle.ensures.stands c.settle.ensures.stage (c.settle.ensures.kept ∙ c.requires.none) c.settle.ensures.pending c.settle.ensures.row c.settle.ensures.added)
+    let on = reached_sent c.send.result _ _ c.in-Success.is c.send.ensures.told in
+    does_put _ _ (puts_entry _ c.args.unit.now c.settle.new.unit (g.S.Site.state c.args.site.now) (g.S.Site.state c.send.new.self) c.args.records.now c.settle.new.records c.args.outcome c.in-Some.request.now front.0 _ c.answer_entry-entry.result
+    alone c.requires.stage front.1 (c.answer_entry-entry.ensures.entry ∙ ap (λ n. srp_entry n c.in-Some.request.now.tag) (c.len.ensures ∙ c.args.unit.now.service.answer.ok.0))
+    (reach_on _ _ on (c.in-Success.ensures.success.puts.partner alone)) (puts_reach _ _ (g.S.Site.state c.send.new.self).queue _ _ alone on c.send.ensures.rest c.in-Success.ensures.success)
+    c.send.ensures.rest c.send.ensures.advances.own_place c.send.ensures.windows.client
+    c.settle.ensures.stands c.settle.ensures.handshake c.settle.ensures.stage (c.settle.ensures.kept ∙ c.requires.none) c.settle.ensures.pending c.settle.ensures.row c.settle.ensures.added)
 
 pub returns-in-Dropped-clause-does : goal.returns-in-Dropped-clause-does
 returns-in-Dropped-clause-does g c = λ request rest parts alone.
     let front = front_is _ _ c.in-Some.ensures.item.3 in
-    does_keep _ _ (keeps_entry c.args.unit.now (Some (keeps.Answer c.answer_entry-entry.result c.args.outcome)) (g.S.Site.state c.args.site.now) (g.S.Site.state c.send.new.self) c.args.records.now c.args.outcome c.in-Some.request.now front.0
-    c.answer_entry-entry.result c.requires.stage c.requires.none front.1 (c.answer_entry-entry.ensures.entry ∙ ap (λ n. srp_entry n c.in-Some.request.now.tag) (c.len.ensures ∙ c.args.unit.now.service.answer.ok.0))
-    refl c.in-Dropped.ensures.dropped.sent c.send.ensures.advances.own_place c.send.ensures.rest.place c.send.ensures.rest.last_session c.send.ensures.rest.taken c.send.ensures.windows.client)
+    does_keep _ _ (keeps_entry _ c.args.unit.now (Some (keeps.Answer c.answer_entry-entry.result c.args.outcome)) (g.S.Site.state c.args.site.now) (g.S.Site.state c.send.new.self) c.args.records.now c.args.outcome c.in-Some.request.now front.0
+    c.answer_entry-entry.result alone c.requires.stage c.requires.none front.1 (c.answer_entry-entry.ensures.entry ∙ ap (λ n. srp_entry n c.in-Some.request.now.tag) (c.len.ensures ∙ c.args.unit.now.service.answer.ok.0))
+    refl (reach_on _ _ (reached_dropped c.send.result _ _ _ c.in-Dropped.is c.send.ensures.told) (c.in-Dropped.ensures.dropped.partner alone)) c.in-Dropped.ensures.dropped.sent
+    c.send.ensures.rest c.send.ensures.advances.own_place c.send.ensures.windows.client)
 
 pub returns-in_default-send-clause-does : goal.returns-in_default-send-clause-does
 returns-in_default-send-clause-does g c = λ request rest parts alone.
     let front = front_is _ _ c.in-Some.ensures.item.3 in
-    does_lose _ _ (loses_entry c.args.unit.now c.finish.new.unit (g.S.Site.state c.args.site.now) (g.S.Site.state c.send.new.self) c.args.records.now c.args.outcome c.in-Some.request.now front.0
-    c.requires.stage front.1 (same_sent _ _ _ _ c.in_default-send.not-Success c.in_default-send.not-Dropped c.send.ensures.closed c.send.ensures.refused) c.send.ensures.advances.own_place c.send.ensures.rest.place c.send.ensures.rest.last_session c.send.ensures.rest.taken c.send.ensures.windows.client
-    c.finish.ensures.stands c.finish.ensures.stage (c.finish.ensures.kept ∙ c.requires.none) c.finish.ensures.pending c.finish.ensures.logins)
+    does_lose _ _ (loses_entry _ c.args.unit.now c.finish.new.unit (g.S.Site.state c.args.site.now) (g.S.Site.state c.send.new.self) c.args.records.now c.args.outcome c.in-Some.request.now front.0
+    alone c.requires.stage front.1
+    (shut_reach _ (g.S.Site.state c.args.site.now).queue (g.S.Site.state c.send.new.self).queue c.send.result alone c.in_default-send.not-Success c.in_default-send.not-Dropped c.send.ensures.closed c.send.ensures.unregistered)
+    (same_sent _ _ _ _ c.in_default-send.not-Success c.in_default-send.not-Dropped c.send.ensures.closed c.send.ensures.refused) c.send.ensures.rest c.send.ensures.advances.own_place c.send.ensures.windows.client
+    c.finish.ensures.stands c.finish.ensures.handshake c.finish.ensures.stage (c.finish.ensures.kept ∙ c.requires.none) c.finish.ensures.pending c.finish.ensures.logins)
 
 pub returns-in_default-clause-free : goal.returns-in_default-clause-free
 returns-in_default-clause-free g c = λ request rest parts alone waiting going. absurd (no_front _ request rest parts (search rules))

@@ -44,11 +44,11 @@ use Rattle.block_server.specs.Steps.{NoStage}
 use Rattle.std.proofs.Common.{inl}
 use Rattle.block_server.proofs.Advancing.{advances_same}
 use Rattle.block_server.proofs.Dropping.{discarded_closed, known_within}
-use Rattle.std.proofs.Common.{inl, inr}
-use Rattle.vio_num.specs.Entry.{is_srp_entry}
+use Rattle.std.proofs.Common.{inl}
 use Rattle.block_server.specs.Doings.{doing}
-use Rattle.block_server.proofs.DoingAsides.{put_none, put_one, steps_aside}
-use Rattle.block_server.proofs.DoingAnswers.{answer_kept, does_aside, does_lose, does_put, doing_same, loses_entry, puts_entry, reply_kept, rests_free, turn_from, turn_none, turn_one}
+use Rattle.block_server.proofs.DoingAsides.{doing_same, doing_unsent, sends_kept}
+use Rattle.block_server.proofs.DoingReplies.{PutsOrLoses, loses_reach, puts_reach, reach_on, reached_sent, shut_reach}
+use Rattle.block_server.proofs.DoingAnswers.{answer_kept, does_lose, does_put, does_reply, loses_entry, puts_entry, reply_kept, rests_free, turn_from, turn_none, turn_one}
 use Rattle.block_server.proofs.Serves.{same_sent}
 use Rattle.block_server.proofs.answering.put_kept.Goals as goal
 
@@ -338,45 +338,55 @@ returns-in_default-clause-does g c = λ link rests. turn_none _ _ refl rests
 
 pub returns-in-Dropped-clause-does : goal.returns-in-Dropped-clause-does
 returns-in-Dropped-clause-does g c = λ link rests.
-    turn_none _ _ (doing_same c.args.unit.now (g.S.Site.state c.args.site.now) (g.S.Site.state c.send.new.self) c.args.records.now c.make_room.new.self (c.send.ensures.advances.own_place ∙ c.reserve.ensures.advances.own_place)
-    (c.send.ensures.rest.place ∙ c.reserve.ensures.rest.place) (c.send.ensures.rest.last_session ∙ c.reserve.ensures.rest.last_session) (c.send.ensures.rest.taken ∙ c.reserve.ensures.rest.taken)
-    (c.in-Dropped.ensures.dropped.sent ∙ c.reserve.ensures.rest.sent) (c.send.ensures.windows.client ∙ c.reserve.ensures.windows.client)
-    c.make_room.ensures.lists.history c.make_room.ensures.lists.grants) rests
+    turn_none _ _ (doing_unsent _ c.args.unit.now (g.S.Site.state c.reserve.new.self) (g.S.Site.state c.send.new.self) c.make_room.new.self link c.send.ensures.advances.own_place c.send.ensures.rest
+    c.in-Dropped.ensures.dropped.sent c.send.ensures.windows.client
+    ∙ doing_same c.args.unit.now (g.S.Site.state c.args.site.now) (g.S.Site.state c.reserve.new.self) c.args.records.now c.make_room.new.self c.reserve.ensures.advances.own_place c.reserve.ensures.rest
+    c.reserve.ensures.windows.client c.make_room.ensures.lists.history c.make_room.ensures.lists.grants) rests
 
 pub returns-in_default-kept-clause-does : goal.returns-in_default-kept-clause-does
 returns-in_default-kept-clause-does g c = λ link rests.
     let kept = reply_kept (doing c.args.unit.now (g.S.Site.state c.args.site.now) c.args.records.now) c.in_default-kept.field-0 (c.in-Some.is ∙ ap Some c.in_default-kept.is) rests in
-    turn_from _ _ _ (doing_same c.args.unit.now (g.S.Site.state c.args.site.now) (g.S.Site.state c.reserve.new.self) c.args.records.now c.make_room.new.self c.reserve.ensures.advances.own_place c.reserve.ensures.rest.place
-    c.reserve.ensures.rest.last_session c.reserve.ensures.rest.taken c.reserve.ensures.rest.sent c.reserve.ensures.windows.client c.make_room.ensures.lists.history c.make_room.ensures.lists.grants)
-    (turn_one _ _ (does_aside _ _ (steps_aside c.args.unit.now None (g.S.Site.state c.reserve.new.self) (g.S.Site.state c.send.new.self) c.make_room.new.self (inr (kept.0.kept, tt)) c.send.ensures.advances.own_place c.send.ensures.rest.place c.send.ensures.rest.last_session c.send.ensures.rest.taken
-    (put_one _ _ _ c.in-Success.ensures.success.puts.sent (ap is_srp_entry (c.entry.ensures ∙ ap kept_entry c.in_default-kept.is) ∙ kept.1)) c.send.ensures.windows.client))
+    turn_from _ _ _ (doing_same c.args.unit.now (g.S.Site.state c.args.site.now) (g.S.Site.state c.reserve.new.self) c.args.records.now c.make_room.new.self c.reserve.ensures.advances.own_place c.reserve.ensures.rest
+    c.reserve.ensures.windows.client c.make_room.ensures.lists.history c.make_room.ensures.lists.grants)
+    (turn_one _ _ (does_reply _ _ (sends_kept _ c.args.unit.now (g.S.Site.state c.reserve.new.self) (g.S.Site.state c.send.new.self) c.make_room.new.self c.in_default-kept.field-0 link (c.in-Some.is ∙ ap Some c.in_default-kept.is)
+    c.send.ensures.rest c.send.ensures.advances.own_place c.send.ensures.windows.client
+    (subst (PutsOrLoses (g.S.Site.state c.reserve.new.self).queue (g.S.Site.state c.send.new.self).queue) (c.entry.ensures ∙ ap kept_entry c.in_default-kept.is)
+    (puts_reach _ _ (g.S.Site.state c.send.new.self).queue _ _ link (reached_sent c.send.result _ _ c.in-Success.is c.send.ensures.told) c.send.ensures.rest c.in-Success.ensures.success))))
     (inl (record { waiting = kept.0.waiting; stage = kept.0.stage; kept = tt })))
 
 pub returns-in_default-kept-2-clause-does : goal.returns-in_default-kept-2-clause-does
 returns-in_default-kept-2-clause-does g c = λ link rests.
     let kept = reply_kept (doing c.args.unit.now (g.S.Site.state c.args.site.now) c.args.records.now) c.in_default-kept-2.field-0 (c.in-Some.is ∙ ap Some c.in_default-kept-2.is) rests in
-    turn_from _ _ _ (doing_same c.args.unit.now (g.S.Site.state c.args.site.now) (g.S.Site.state c.reserve.new.self) c.args.records.now c.make_room.new.self c.reserve.ensures.advances.own_place c.reserve.ensures.rest.place
-    c.reserve.ensures.rest.last_session c.reserve.ensures.rest.taken c.reserve.ensures.rest.sent c.reserve.ensures.windows.client c.make_room.ensures.lists.history c.make_room.ensures.lists.grants)
-    (turn_one _ _ (does_aside _ _ (steps_aside c.args.unit.now None (g.S.Site.state c.reserve.new.self) (g.S.Site.state c.send.new.self) c.make_room.new.self (inr (kept.0.kept, tt)) c.send.ensures.advances.own_place c.send.ensures.rest.place c.send.ensures.rest.last_session c.send.ensures.rest.taken
-    (put_none _ _ (same_sent _ _ _ _ c.in_default-send.not-Success c.in_default-send.not-Dropped c.send.ensures.closed c.send.ensures.refused)) c.send.ensures.windows.client))
+    turn_from _ _ _ (doing_same c.args.unit.now (g.S.Site.state c.args.site.now) (g.S.Site.state c.reserve.new.self) c.args.records.now c.make_room.new.self c.reserve.ensures.advances.own_place c.reserve.ensures.rest
+    c.reserve.ensures.windows.client c.make_room.ensures.lists.history c.make_room.ensures.lists.grants)
+    (turn_one _ _ (does_reply _ _ (sends_kept _ c.args.unit.now (g.S.Site.state c.reserve.new.self) (g.S.Site.state c.send.new.self) c.make_room.new.self c.in_default-kept-2.field-0 link (c.in-Some.is ∙ ap Some c.in_default-kept-2.is)
+    c.send.ensures.rest c.send.ensures.advances.own_place c.send.ensures.windows.client
+    (loses_reach (g.S.Site.state c.reserve.new.self).queue (g.S.Site.state c.send.new.self).queue c.in_default-kept-2.field-0
+    (same_sent _ _ _ _ c.in_default-send.not-Success c.in_default-send.not-Dropped c.send.ensures.closed c.send.ensures.refused)
+    (shut_reach _ (g.S.Site.state c.reserve.new.self).queue (g.S.Site.state c.send.new.self).queue c.send.result link c.in_default-send.not-Success c.in_default-send.not-Dropped c.send.ensures.closed c.send.ensures.unregistered))))
     (inl (record { waiting = kept.0.waiting; stage = kept.0.stage; kept = tt })))
 
 pub returns-in-Answer-clause-does : goal.returns-in-Answer-clause-does
 returns-in-Answer-clause-does g c = λ link rests.
     let is = answer_kept (doing c.args.unit.now (g.S.Site.state c.args.site.now) c.args.records.now) c.in-Answer.entry c.in-Answer.outcome (c.in-Some.is ∙ ap Some c.in-Answer.is) rests in
-    turn_from _ _ _ (doing_same c.args.unit.now (g.S.Site.state c.args.site.now) (g.S.Site.state c.reserve.new.self) c.args.records.now c.make_room.new.self c.reserve.ensures.advances.own_place c.reserve.ensures.rest.place
-    c.reserve.ensures.rest.last_session c.reserve.ensures.rest.taken c.reserve.ensures.rest.sent c.reserve.ensures.windows.client c.make_room.ensures.lists.history c.make_room.ensures.lists.grants)
-    (turn_one _ _ (does_put _ _ (puts_entry c.args.unit.now c.settle.new.unit (g.S.Site.state c.reserve.new.self) (g.S.Site.state c.send.new.self) c.make_room.new.self c.settle.new.records c.in-Answer.outcome is.request is.rest _ _ c.entry.result
-    is.stage is.pending (c.entry.ensures ∙ ap kept_entry c.in-Answer.is ∙ is.entry_is) c.in-Success.ensures.success.puts.sent c.send.ensures.advances.own_place c.send.ensures.rest.place c.send.ensures.rest.last_session c.send.ensures.rest.taken c.send.ensures.windows.client
-    c.settle.ensures.stands c.settle.ensures.stage c.settle.ensures.kept c.settle.ensures.pending c.settle.ensures.row c.settle.ensures.added))
+    turn_from _ _ _ (doing_same c.args.unit.now (g.S.Site.state c.args.site.now) (g.S.Site.state c.reserve.new.self) c.args.records.now c.make_room.new.self c.reserve.ensures.advances.own_place c.reserve.ensures.rest
+    c.reserve.ensures.windows.client c.make_room.ensures.lists.history c.make_room.ensures.lists.grants)
+    (turn_one _ _ (does_put _ _ (puts_entry _ c.args.unit.now c.settle.new.unit (g.S.Site.state c.reserve.new.self) (g.S.Site.state c.send.new.self) c.make_room.new.self c.settle.new.records c.in-Answer.outcome is.request is.rest _ c.entry.result
+    link is.stage is.pending (c.entry.ensures ∙ ap kept_entry c.in-Answer.is ∙ is.entry_is)
+    (reach_on _ _ (reached_sent c.send.result _ _ c.in-Success.is c.send.ensures.told) (c.in-Success.ensures.success.puts.partner link))
+    (puts_reach _ _ (g.S.Site.state c.send.new.self).queue _ _ link (reached_sent c.send.result _ _ c.in-Success.is c.send.ensures.told) c.send.ensures.rest c.in-Success.ensures.success)
+    c.send.ensures.rest c.send.ensures.advances.own_place c.send.ensures.windows.client
+    c.settle.ensures.stands c.settle.ensures.handshake c.settle.ensures.stage c.settle.ensures.kept c.settle.ensures.pending c.settle.ensures.row c.settle.ensures.added))
     (rests_free c.settle.new.unit (g.S.Site.state c.send.new.self) c.settle.new.records (waiting_stands _ _ c.settle.ensures.stands ∙ is.waiting) c.settle.ensures.stage c.settle.ensures.kept))
 
 pub returns-in-Answer-kept-clause-does : goal.returns-in-Answer-kept-clause-does
 returns-in-Answer-kept-clause-does g c = λ link rests.
     let is = answer_kept (doing c.args.unit.now (g.S.Site.state c.args.site.now) c.args.records.now) c.in-Answer-kept.entry c.in-Answer-kept.outcome (c.in-Some.is ∙ ap Some c.in-Answer-kept.is) rests in
-    turn_from _ _ _ (doing_same c.args.unit.now (g.S.Site.state c.args.site.now) (g.S.Site.state c.reserve.new.self) c.args.records.now c.make_room.new.self c.reserve.ensures.advances.own_place c.reserve.ensures.rest.place
-    c.reserve.ensures.rest.last_session c.reserve.ensures.rest.taken c.reserve.ensures.rest.sent c.reserve.ensures.windows.client c.make_room.ensures.lists.history c.make_room.ensures.lists.grants)
-    (turn_one _ _ (does_lose _ _ (loses_entry c.args.unit.now c.finish.new.unit (g.S.Site.state c.reserve.new.self) (g.S.Site.state c.send.new.self) c.make_room.new.self c.in-Answer-kept.outcome is.request is.rest
-    is.stage is.pending (same_sent _ _ _ _ c.in_default-send.not-Success c.in_default-send.not-Dropped c.send.ensures.closed c.send.ensures.refused) c.send.ensures.advances.own_place c.send.ensures.rest.place c.send.ensures.rest.last_session c.send.ensures.rest.taken c.send.ensures.windows.client
-    c.finish.ensures.stands c.finish.ensures.stage c.finish.ensures.kept c.finish.ensures.pending c.finish.ensures.logins))
+    turn_from _ _ _ (doing_same c.args.unit.now (g.S.Site.state c.args.site.now) (g.S.Site.state c.reserve.new.self) c.args.records.now c.make_room.new.self c.reserve.ensures.advances.own_place c.reserve.ensures.rest
+    c.reserve.ensures.windows.client c.make_room.ensures.lists.history c.make_room.ensures.lists.grants)
+    (turn_one _ _ (does_lose _ _ (loses_entry _ c.args.unit.now c.finish.new.unit (g.S.Site.state c.reserve.new.self) (g.S.Site.state c.send.new.self) c.make_room.new.self c.in-Answer-kept.outcome is.request is.rest
+    link is.stage is.pending
+    (shut_reach _ (g.S.Site.state c.reserve.new.self).queue (g.S.Site.state c.send.new.self).queue c.send.result link c.in_default-send.not-Success c.in_default-send.not-Dropped c.send.ensures.closed c.send.ensures.unregistered)
+    (same_sent _ _ _ _ c.in_default-send.not-Success c.in_default-send.not-Dropped c.send.ensures.closed c.send.ensures.refused) c.send.ensures.rest c.send.ensures.advances.own_place c.send.ensures.windows.client
+    c.finish.ensures.stands c.finish.ensures.handshake c.finish.ensures.stage c.finish.ensures.kept c.finish.ensures.pending c.finish.ensures.logins))
     (rests_free c.finish.new.unit (g.S.Site.state c.send.new.self) c.make_room.new.self (waiting_stands _ _ c.finish.ensures.stands ∙ is.waiting) c.finish.ensures.stage c.finish.ensures.kept))

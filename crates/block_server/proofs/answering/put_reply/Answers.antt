@@ -15,7 +15,7 @@ use Rattle.block_server.proofs.Owing.{owes_seen}
 use Rattle.block_server.proofs.OwingCalls.{seen_sends}
 use Rattle.block_server.proofs.Listening.{full_no, not_put_reply, sends_reply}
 use Rattle.std.proofs.Common.{inl, inr}
-use Rattle.block_server.proofs.DoingAsides.{plain_none, put_none, put_one, steps_aside}
+use Rattle.block_server.proofs.DoingReplies.{loses_reach, puts_reach, reach_on, reached_dropped, reached_sent, reply_sent, shut_reach}
 use Rattle.block_server.proofs.Serves.{same_sent}
 use Rattle.block_server.proofs.answering.put_reply.Goals as goal
 
@@ -92,18 +92,23 @@ returns-in_default-clause-hears g c = λ alone on room. (
 )
 
 pub returns-in-Dropped-clause-aside : goal.returns-in-Dropped-clause-aside
-returns-in-Dropped-clause-aside g c = λ records alone none.
-    steps_aside c.args.unit.now (Some (keeps.Reply c.args.reply)) (g.S.Site.state c.args.site.now) (g.S.Site.state c.send.new.self) records (inr (none, plain_none c.args.reply c.requires.may c.requires.plain))
-    c.send.ensures.advances.own_place c.send.ensures.rest.place c.send.ensures.rest.last_session c.send.ensures.rest.taken (put_none _ _ c.in-Dropped.ensures.dropped.sent) c.send.ensures.windows.client
+returns-in-Dropped-clause-aside g c = λ records alone.
+    reply_sent _ c.args.unit.now (Some (keeps.Reply c.args.reply)) (g.S.Site.state c.args.site.now) (g.S.Site.state c.send.new.self) records c.args.reply alone c.send.ensures.rest
+    c.send.ensures.advances.own_place c.send.ensures.windows.client
+    (inr (reach_on _ _ (reached_dropped c.send.result _ _ _ c.in-Dropped.is c.send.ensures.told) (c.in-Dropped.ensures.dropped.partner alone), c.in-Dropped.ensures.dropped.sent, refl))
 
 pub returns-in-Success-clause-aside : goal.returns-in-Success-clause-aside
-returns-in-Success-clause-aside g c = λ records alone none.
-    steps_aside c.args.unit.now c.args.unit.now.line.kept (g.S.Site.state c.args.site.now) (g.S.Site.state c.send.new.self) records (inl refl)
-    c.send.ensures.advances.own_place c.send.ensures.rest.place c.send.ensures.rest.last_session c.send.ensures.rest.taken
-    (put_one _ _ _ c.in-Success.ensures.success.puts.sent (plain_none c.args.reply c.requires.may c.requires.plain)) c.send.ensures.windows.client
+returns-in-Success-clause-aside g c = λ records alone.
+    reply_sent _ c.args.unit.now c.args.unit.now.line.kept (g.S.Site.state c.args.site.now) (g.S.Site.state c.send.new.self) records c.args.reply alone c.send.ensures.rest
+    c.send.ensures.advances.own_place c.send.ensures.windows.client
+    (inl (puts_reach _ (g.S.Site.state c.args.site.now).queue (g.S.Site.state c.send.new.self).queue c.args.reply _ alone (reached_sent c.send.result _ _ c.in-Success.is c.send.ensures.told) c.send.ensures.rest c.in-Success.ensures.success, refl))
 
 pub returns-in_default-clause-aside : goal.returns-in_default-clause-aside
-returns-in_default-clause-aside g c = λ records alone none.
-    steps_aside c.args.unit.now c.args.unit.now.line.kept (g.S.Site.state c.args.site.now) (g.S.Site.state c.send.new.self) records (inl refl)
-    c.send.ensures.advances.own_place c.send.ensures.rest.place c.send.ensures.rest.last_session c.send.ensures.rest.taken
-    (put_none _ _ (same_sent _ _ _ _ c.in_default.not-Success c.in_default.not-Dropped c.send.ensures.closed c.send.ensures.refused)) c.send.ensures.windows.client
+returns-in_default-clause-aside g c = λ records alone.
+    reply_sent _ c.args.unit.now c.args.unit.now.line.kept (g.S.Site.state c.args.site.now) (g.S.Site.state c.send.new.self) records c.args.reply alone c.send.ensures.rest
+    c.send.ensures.advances.own_place c.send.ensures.windows.client
+    (inl (
+      loses_reach (g.S.Site.state c.args.site.now).queue (g.S.Site.state c.send.new.self).queue c.args.reply (same_sent _ _ _ _ c.in_default.not-Success c.in_default.not-Dropped c.send.ensures.closed c.send.ensures.refused)
+          (shut_reach _ (g.S.Site.state c.args.site.now).queue (g.S.Site.state c.send.new.self).queue c.send.result alone c.in_default.not-Success c.in_default.not-Dropped c.send.ensures.closed c.send.ensures.unregistered),
+      refl,
+    ))

@@ -1,6 +1,6 @@
 use Rattle.block_server.proofs.Cargoes.{command_more, first_pushed}
 use Rattle.block_server.specs.Receipts.{LinesMore}
-use Rattle.std.proofs.Common.{List, ℕ, subst, sym}
+use Rattle.std.proofs.Common.{◌&&◌, List, ℕ, subst, sym}
 use Rattle.block_server.specs.Causes.{told_to, units_at}
 use Rattle.block_server.specs.Causes.News.{fetched}
 use Rattle.std.proofs.Common.{refl}
@@ -22,13 +22,12 @@ use Rattle.block_server.proofs.Dealing.{accepted_how, ignored_none}
 use Rattle.block_server.proofs.Talking.{accepts_pushed, not_fatal, not_ignored}
 use Rattle.block_server.specs.Talk.{talk_of}
 use Rattle.block_server.proofs.LastRows.{ended_idle, idle_same}
-use Rattle.std.proofs.Common.{inr}
 use Rattle.crq_session.specs.EndState.{EndState}
 use Rattle.block_server.specs.Doings.{doing}
 use Rattle.block_server.specs.Granting.{login_state}
 use Rattle.block_server.specs.Talk.{to_come}
-use Rattle.block_server.proofs.DoingEnds.{drops_heard, left_at_start}
-use Rattle.block_server.proofs.DoingHears.{drops_under, passes_entry, takes_request}
+use Rattle.block_server.proofs.DoingEnds.{drops_heard, left_at_start, one_drops}
+use Rattle.block_server.proofs.DoingHears.{accepted_on, command_event, command_init, drops_under, one_passes, one_takes, passes_entry, srp_first, takes_request}
 use Rattle.block_server.proofs.intake.judge.Goals as goal
 
 pub returns-in-Ignored-clause-once : goal.returns-in-Ignored-clause-once
@@ -144,20 +143,26 @@ pub returns-in-Fatal-clause-rows : goal.returns-in-Fatal-clause-rows
 returns-in-Fatal-clause-rows c = ended_idle _ _ _ _ _ c.end_counted.ensures.row c.end_counted.ensures.stage
 
 pub returns-in-Ignored-clause-does : goal.returns-in-Ignored-clause-does
-returns-in-Ignored-clause-does c = λ before site srp start long known queue named read.
-    inr (inl (passes_entry c.args.arrival (doing c.args.unit.now before c.args.records.now) _ named refl c.judge_unit.ensures.granted
-    (decides_current c.args.unit.now.logins c.judge_unit.new.logins _ c.judge_unit.result c.judge_unit.ensures.decides) refl refl refl refl (ap to_come queue) (ap (λ (q : EndState). q.sent) queue) known refl refl))
+returns-in-Ignored-clause-does c = λ before site srp waits up going start long known queue named read.
+    one_passes _ _ (passes_entry c.args.arrival (doing c.args.unit.now before c.args.records.now) _ named refl (ap (λ (q : EndState). q.place.partner_registered) queue) (ap (λ (q : EndState). q.counts.partner_session) queue)
+    (logins_stay c.args.unit.now.logins c.judge_unit.new.logins (decides_granted c.args.unit.now.logins c.judge_unit.new.logins _ c.judge_unit.result c.judge_unit.ensures.decides)
+    (decides_current c.args.unit.now.logins c.judge_unit.new.logins _ c.judge_unit.result c.judge_unit.ensures.decides))
+    waits refl refl refl refl refl (ap (λ (q : EndState). q.kept) queue) (ap (λ (q : EndState). q.registered && q.place.partner_registered) queue)
+    refl (ap to_come queue) (ap (λ (q : EndState). q.sent) queue) known refl refl (command_init c.args.arrival.entry (srp_first c.args.arrival.entry srp)) (command_event c.args.arrival.entry (srp_first c.args.arrival.entry srp)))
 
 pub returns-in-Ok-clause-does : goal.returns-in-Ok-clause-does
-returns-in-Ok-clause-does c = λ before site srp start long known queue named read.
-    inr (inr (inl (takes_request c.args.arrival (doing c.args.unit.now before c.args.records.now) _ _ _ named refl c.judge_unit.ensures.granted
-    (decides_current c.args.unit.now.logins c.judge_unit.new.logins _ c.judge_unit.result c.judge_unit.ensures.decides) refl refl
-    c.in-Ok.ensures.items refl (ap to_come queue) (ap (λ (q : EndState). q.sent) queue) known refl refl srp c.iu_address.ensures c.kept.ensures long read)))
+returns-in-Ok-clause-does c = λ before site srp waits up going start long known queue named read.
+    one_takes _ _ (takes_request c.args.arrival (doing c.args.unit.now before c.args.records.now) _ _ _ named refl (ap (λ (q : EndState). q.place.partner_registered) queue) (ap (λ (q : EndState). q.counts.partner_session) queue)
+    (logins_stay c.args.unit.now.logins c.judge_unit.new.logins (decides_granted c.args.unit.now.logins c.judge_unit.new.logins _ c.judge_unit.result c.judge_unit.ensures.decides)
+    (decides_current c.args.unit.now.logins c.judge_unit.new.logins _ c.judge_unit.result c.judge_unit.ensures.decides))
+    refl refl c.in-Ok.ensures.items refl refl (ap (λ (q : EndState). q.kept) queue) (ap (λ (q : EndState). q.registered && q.place.partner_registered) queue)
+    refl (ap to_come queue) (ap (λ (q : EndState). q.sent) queue) known refl refl srp up going
+    (accepted_on c.args.unit.now.logins c.judge_unit.new.logins _ c.judge_unit.result _ _ _ c.in-Accepted.is c.judge_unit.ensures.decides) c.iu_address.ensures c.kept.ensures long read)
 
 pub returns-in-Fatal-clause-does : goal.returns-in-Fatal-clause-does
-returns-in-Fatal-clause-does c = λ before site srp start long known queue named read.
-    inr (inr (inr (inl (drops_under c.args.arrival (doing c.args.unit.now before c.args.records.now) _ (login_state c.judge_unit.new.logins)
+returns-in-Fatal-clause-does c = λ before site srp waits up going start long known queue named read.
+    one_drops _ _ (drops_under c.args.arrival (doing c.args.unit.now before c.args.records.now) _ (login_state c.judge_unit.new.logins)
     (logins_stay c.args.unit.now.logins c.judge_unit.new.logins (decides_granted c.args.unit.now.logins c.judge_unit.new.logins _ c.judge_unit.result c.judge_unit.ensures.decides)
     (decides_current c.args.unit.now.logins c.judge_unit.new.logins _ c.judge_unit.result c.judge_unit.ensures.decides))
     (drops_heard c.args.arrival (record c.args.unit.now { logins = c.judge_unit.new.logins }) c.end_counted.new.unit before.own.place.unit site.own.place.unit before.queue site.queue before.client site.client c.args.records.now c.end_counted.new.records _ _ _ _
-    c.end_counted.ensures.ends named queue known c.end_counted.ensures.id c.end_counted.ensures.stage (left_at_start _ _ _ _ start c.end_counted.ensures.row))))))
+    start c.end_counted.ensures.ends named queue known c.end_counted.ensures.id c.end_counted.ensures.stage (left_at_start _ _ _ _ start c.end_counted.ensures.row) c.end_counted.ensures.closing c.end_counted.ensures.handshake))

@@ -38,8 +38,8 @@ use Rattle.block_server.proofs.Talking.{long_enough, not_denied, not_in_use, rec
 use Rattle.block_server.proofs.LastRows.{ended_idle, idle_same}
 use Rattle.tce_window.specs.PortState.{PortPlace}
 use Rattle.block_server.specs.Doings.{before_hearing, doing}
-use Rattle.block_server.proofs.DoingEnds.{drops_heard, left_at_start}
-use Rattle.block_server.proofs.DoingHears.{drops_freely, keeps_none}
+use Rattle.block_server.proofs.DoingEnds.{drops_heard, keeps_none, left_at_start}
+use Rattle.block_server.proofs.DoingHears.{drops_freely}
 use Rattle.block_server.proofs.Doings.{does_one}
 use Rattle.block_server.proofs.Reading.{known_same, reads_known}
 use Rattle.block_server.proofs.intake.receive.Goals as goal
@@ -279,32 +279,32 @@ pub returns-in-Err-NoMemory-clause-rows : goal.returns-in-Err-NoMemory-clause-ro
 returns-in-Err-NoMemory-clause-rows g c = idle_same _ _ _ _ refl refl
 
 pub returns-then-not-is_up-clause-does : goal.returns-then-not-is_up-clause-does
-returns-then-not-is_up-clause-does g c = λ link alone srp free.
-    drops_freely _ _ (drops_heard c.args.arrival c.args.unit.now c.end_session.new.unit (g.S.Site.state c.args.site.now).own.place.unit (g.S.Site.state c.args.site.now).own.place.unit (g.S.Site.state c.args.site.now).queue (g.S.Site.state c.args.site.now).queue (g.S.Site.state c.args.site.now).client (g.S.Site.state c.args.site.now).client c.args.records.now c.end_session.new.records _ _ _ _ c.end_session.ensures.ends refl refl (known_same _)
-    c.end_session.ensures.id c.end_session.ensures.stage (left_at_start _ _ _ _ free.stage c.end_session.ensures.row)) c.end_session.ensures.ends.waiting
+returns-then-not-is_up-clause-does g c = λ link alone going srp free.
+    drops_freely _ _ (drops_heard c.args.arrival c.args.unit.now c.end_session.new.unit (g.S.Site.state c.args.site.now).own.place.unit (g.S.Site.state c.args.site.now).own.place.unit (g.S.Site.state c.args.site.now).queue (g.S.Site.state c.args.site.now).queue (g.S.Site.state c.args.site.now).client (g.S.Site.state c.args.site.now).client c.args.records.now c.end_session.new.records _ _ _ _ free.stage c.end_session.ensures.ends refl refl (known_same _)
+    c.end_session.ensures.id c.end_session.ensures.stage (left_at_start _ _ _ _ free.stage c.end_session.ensures.row) c.end_session.ensures.closing c.end_session.ensures.handshake) c.end_session.ensures.ends.waiting
 
 pub returns-then-len-eq0-clause-does : goal.returns-then-len-eq0-clause-does
-returns-then-len-eq0-clause-does g c = λ link alone srp free.
-    drops_freely _ _ (drops_heard c.args.arrival c.args.unit.now c.end_session-then-len-eq0.new.unit (g.S.Site.state c.args.site.now).own.place.unit (g.S.Site.state c.args.site.now).own.place.unit (g.S.Site.state c.args.site.now).queue (g.S.Site.state c.args.site.now).queue (g.S.Site.state c.args.site.now).client (g.S.Site.state c.args.site.now).client c.args.records.now c.end_session-then-len-eq0.new.records _ _ _ _ c.end_session-then-len-eq0.ensures.ends refl refl (known_same _)
-    c.end_session-then-len-eq0.ensures.id c.end_session-then-len-eq0.ensures.stage (left_at_start _ _ _ _ free.stage c.end_session-then-len-eq0.ensures.row)) c.end_session-then-len-eq0.ensures.ends.waiting
+returns-then-len-eq0-clause-does g c = λ link alone going srp free.
+    drops_freely _ _ (drops_heard c.args.arrival c.args.unit.now c.end_session-then-len-eq0.new.unit (g.S.Site.state c.args.site.now).own.place.unit (g.S.Site.state c.args.site.now).own.place.unit (g.S.Site.state c.args.site.now).queue (g.S.Site.state c.args.site.now).queue (g.S.Site.state c.args.site.now).client (g.S.Site.state c.args.site.now).client c.args.records.now c.end_session-then-len-eq0.new.records _ _ _ _ free.stage c.end_session-then-len-eq0.ensures.ends refl refl (known_same _)
+    c.end_session-then-len-eq0.ensures.id c.end_session-then-len-eq0.ensures.stage (left_at_start _ _ _ _ free.stage c.end_session-then-len-eq0.ensures.row) c.end_session-then-len-eq0.ensures.closing c.end_session-then-len-eq0.ensures.handshake) c.end_session-then-len-eq0.ensures.ends.waiting
 
 pub returns-in-Ok-clause-does : goal.returns-in-Ok-clause-does
-returns-in-Ok-clause-does g c = λ link alone srp free. record {
+returns-in-Ok-clause-does g c = λ link alone going srp free. record {
   does = does_one (before_hearing c.args.arrival (doing c.args.unit.now (g.S.Site.state c.args.site.now) c.args.records.now)) (doing c.judge.new.unit (g.S.Site.state c.fetch_unit.new.self) c.judge.new.records)
-      (c.judge.ensures.does (g.S.Site.state c.args.site.now) (g.S.Site.state c.fetch_unit.new.self) srp free.stage (search rules) (c.fetch_unit.ensures.client alone) c.fetch_unit.ensures.queue
+      (c.judge.ensures.does (g.S.Site.state c.args.site.now) (g.S.Site.state c.fetch_unit.new.self) srp refl (search rules) going free.stage (search rules) (c.fetch_unit.ensures.client alone) c.fetch_unit.ensures.queue
       (ap (λ (p : PortPlace). p.unit) c.fetch_unit.ensures.advances.own_place)
       (reads_known _ _ _ _ (c.fetch_unit.ensures.client alone) (subst (λ (n : ℕ). IsReadWhole (g.S.Site.state c.fetch_unit.new.self).client n c.fetch_unit.new.out) c.iu_address.ensures c.in-Ok.ensures.whole)));
   free = record { waiting = c.judge.ensures.waiting refl; stage = c.judge.ensures.stage free.stage; kept = keeps_none _ c.judge.ensures.none };
 }
 
 pub returns-in-Err-Refused-clause-does : goal.returns-in-Err-Refused-clause-does
-returns-in-Err-Refused-clause-does g c = λ link alone srp free.
-    drops_freely _ _ (drops_heard c.args.arrival c.args.unit.now c.end_session-in-Err-Refused.new.unit _ _ _ _ _ _ c.args.records.now c.end_session-in-Err-Refused.new.records _ _ _ _ c.end_session-in-Err-Refused.ensures.ends
+returns-in-Err-Refused-clause-does g c = λ link alone going srp free.
+    drops_freely _ _ (drops_heard c.args.arrival c.args.unit.now c.end_session-in-Err-Refused.new.unit _ _ _ _ _ _ c.args.records.now c.end_session-in-Err-Refused.new.records _ _ _ _ free.stage c.end_session-in-Err-Refused.ensures.ends
     (ap (λ (p : PortPlace). p.unit) c.fetch_unit.ensures.advances.own_place) c.fetch_unit.ensures.queue (c.fetch_unit.ensures.client alone)
-    c.end_session-in-Err-Refused.ensures.id c.end_session-in-Err-Refused.ensures.stage (left_at_start _ _ _ _ free.stage c.end_session-in-Err-Refused.ensures.row)) c.end_session-in-Err-Refused.ensures.ends.waiting
+    c.end_session-in-Err-Refused.ensures.id c.end_session-in-Err-Refused.ensures.stage (left_at_start _ _ _ _ free.stage c.end_session-in-Err-Refused.ensures.row) c.end_session-in-Err-Refused.ensures.closing c.end_session-in-Err-Refused.ensures.handshake) c.end_session-in-Err-Refused.ensures.ends.waiting
 
 pub returns-in-Err-Busy-clause-does : goal.returns-in-Err-Busy-clause-does
-returns-in-Err-Busy-clause-does g c = λ link alone srp free.
+returns-in-Err-Busy-clause-does g c = λ link alone going srp free.
     let failed : IsErrOf c.fetch_unit.result halts.Busy = cc (c.in-Err-Busy.is, c.in-Err-Busy.field-0-is) in
     absurd (not_in_use (g.S.Site.state c.args.site.now) (g.S.Site.state c.fetch_unit.new.self) alone (c.fetch_unit.ensures.busy failed))
 

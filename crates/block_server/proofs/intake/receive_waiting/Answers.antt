@@ -107,10 +107,10 @@ pub returns-clause-rows : goal.returns-clause-rows
 returns-clause-rows g c = idle_then _ _ _ _ _ _ (idle_same _ _ _ _ (ap (λ (d : Desk). d.stage) c.make_room.ensures.desk) c.make_room.ensures.history) c.receive.ensures.rows
 
 pub returns-in_default-clause-does : goal.returns-in_default-clause-does
-returns-in_default-clause-does g c = λ link alone free. freely_none _ _ refl free
+returns-in_default-clause-does g c = λ link alone going free. freely_none _ _ refl free
 
 pub returns-clause-does : goal.returns-clause-does
-returns-clause-does g c = λ link alone free. absurd (none_waits _ c.in-Some.arrival (search rules) free.waiting)
+returns-clause-does g c = λ link alone going free. absurd (none_waits _ c.in-Some.arrival (search rules) free.waiting)
 
 pub returns-clause-goes : goal.returns-clause-goes
 returns-clause-goes g c = λ alone on. c.receive.ensures.goes alone (ended_stands _ _ c.make_room.ensures.stands ∙ on)

@@ -17,8 +17,10 @@ use Rattle.block_server.proofs.LastRows.{idle_same}
 use Rattle.block_server.specs.declared.service.Service.{Service}
 use Rattle.std.proofs.Common.{◌∙◌}
 use Rattle.block_server.specs.Doings.{doing}
-use Rattle.block_server.proofs.DoingHears.{hearing_free, keeps_none, passes_aside, passes_freely, passes_same}
-use Rattle.block_server.proofs.Taking.{ended_stands, waiting_stands}
+use Rattle.block_server.specs.Entries.{datagram_answer}
+use Rattle.block_server.proofs.DoingHears.{command_event, command_init, datagram_sends, hearing_free, low_address, one_datagram, one_freely, passes_freely, passes_same, reply_free}
+use Rattle.block_server.proofs.DoingReplies.{plain_none}
+use Rattle.block_server.proofs.Taking.{ended_stands}
 use Rattle.block_server.proofs.intake.take_command.Goals as goal
 
 pub returns-in-2-clause-once : goal.returns-in-2-clause-once
@@ -132,16 +134,17 @@ pub returns-in_default-clause-rows : goal.returns-in_default-clause-rows
 returns-in_default-clause-rows g c = idle_same _ _ _ _ refl refl
 
 pub returns-in-1-clause-does : goal.returns-in-1-clause-does
-returns-in-1-clause-does g c = λ link alone first waits free. c.receive.ensures.does link alone (srp_command c.args.arrival.entry first (search rules)) free
+returns-in-1-clause-does g c = λ link alone going first waits free. c.receive.ensures.does link alone going (srp_command c.args.arrival.entry first (search rules)) free
 
 pub returns-in-2-clause-does : goal.returns-in-2-clause-does
-returns-in-2-clause-does g c = λ link alone first waits free.
-    passes_aside _ _ _ (passes_same c.args.arrival (doing c.args.unit.now (g.S.Site.state c.args.site.now) c.args.records.now)) (c.put_reply.ensures.aside c.args.records.now link (keeps_none _ c.requires.none))
-    (waiting_stands _ _ c.put_reply.ensures.stands) (hearing_free c.args.arrival (doing c.args.unit.now (g.S.Site.state c.args.site.now) c.args.records.now) waits free)
+returns-in-2-clause-does g c = λ link alone going first waits free.
+    let sends = c.put_reply.ensures.aside c.args.records.now link in
+    one_freely _ _ (one_datagram _ _ (datagram_sends c.args.arrival (doing c.args.unit.now (g.S.Site.state c.args.site.now) c.args.records.now) _ _ waits first (c.datagram_answer.ensures.entry ∙ ap datagram_answer (c.iu_address.ensures ∙ low_address c.args.arrival.entry (search rules))) sends))
+    (reply_free (doing c.args.unit.now (g.S.Site.state c.args.site.now) c.args.records.now) _ _ sends (plain_none _ c.datagram_answer.ensures.may c.datagram_answer.ensures.plain) (hearing_free c.args.arrival (doing c.args.unit.now (g.S.Site.state c.args.site.now) c.args.records.now) waits free))
 
 pub returns-in_default-clause-does : goal.returns-in_default-clause-does
-returns-in_default-clause-does g c = λ link alone first waits free.
-    passes_freely _ _ (passes_same c.args.arrival (doing c.args.unit.now (g.S.Site.state c.args.site.now) c.args.records.now)) (hearing_free c.args.arrival (doing c.args.unit.now (g.S.Site.state c.args.site.now) c.args.records.now) waits free)
+returns-in_default-clause-does g c = λ link alone going first waits free.
+    passes_freely _ _ (passes_same c.args.arrival (doing c.args.unit.now (g.S.Site.state c.args.site.now) c.args.records.now) waits (command_init c.args.arrival.entry first) (command_event c.args.arrival.entry first)) (hearing_free c.args.arrival (doing c.args.unit.now (g.S.Site.state c.args.site.now) c.args.records.now) waits free)
 
 pub returns-in-1-clause-goes : goal.returns-in-1-clause-goes
 returns-in-1-clause-goes g c = λ alone on. c.receive.ensures.goes alone on

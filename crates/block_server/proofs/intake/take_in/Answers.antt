@@ -124,8 +124,8 @@ loop-taken-preserved g c = record {
       c.make_room.ensures.talk (ap (λ (d : Desk). d.stage) c.make_room.ensures.desk) c.make_room.ensures.line (waiting_stands _ _ c.make_room.ensures.stands) c.make_room.ensures.grants c.in_ok-next-2.ensures.hears);
   may = λ on. c.in_ok-next-2.ensures.goes_on (may_stands _ _ c.make_room.ensures.stands (c.loop-taken.invariant.may on)) (search rules);
   idle = idle_then _ _ _ _ _ _ (idle_then _ _ _ _ _ _ c.loop-taken.invariant.idle (idle_same _ _ _ _ (ap (λ (d : Desk). d.stage) c.make_room.ensures.desk) c.make_room.ensures.history)) c.take_one.ensures.rows;
-  does = λ link alone free. freely_next _ _ _ _ (c.make_room.ensures.doing (g.S.Site.state c.loop-taken.site)) (c.loop-taken.invariant.does link alone free)
-      (λ on. c.in_ok-next-2.ensures.does link (c.loop-taken.invariant.advances.shared ∙ alone) on);
+  does = λ link alone going free. freely_next _ _ _ _ (c.make_room.ensures.doing (g.S.Site.state c.loop-taken.site)) (c.loop-taken.invariant.does link alone going free)
+      (λ on. c.in_ok-next-2.ensures.does link (c.loop-taken.invariant.advances.shared ∙ alone) (ended_stands _ _ c.make_room.ensures.stands ∙ (c.loop-taken.invariant.may going).goes_on) on);
 }
 
 pub returns-after-loop-taken-clause-once : goal.returns-after-loop-taken-clause-once
@@ -316,8 +316,8 @@ pub returns-else-len-lt-MOST_PENDING-clause-rows : goal.returns-else-len-lt-MOST
 returns-else-len-lt-MOST_PENDING-clause-rows g c = c.loop-taken.invariant.idle
 
 pub returns-then-ne-2-clause-does : goal.returns-then-ne-2-clause-does
-returns-then-ne-2-clause-does g c = λ link alone free. freely_next _ _ _ _ (c.make_room.ensures.doing (g.S.Site.state c.loop-taken.site)) (c.loop-taken.invariant.does link alone free)
-    (λ on. c.in_ok-next-2.ensures.does link (c.loop-taken.invariant.advances.shared ∙ alone) on)
+returns-then-ne-2-clause-does g c = λ link alone going free. freely_next _ _ _ _ (c.make_room.ensures.doing (g.S.Site.state c.loop-taken.site)) (c.loop-taken.invariant.does link alone going free)
+    (λ on. c.in_ok-next-2.ensures.does link (c.loop-taken.invariant.advances.shared ∙ alone) (ended_stands _ _ c.make_room.ensures.stands ∙ (c.loop-taken.invariant.may going).goes_on) on)
 
 pub returns-after-loop-taken-clause-does : goal.returns-after-loop-taken-clause-does
 returns-after-loop-taken-clause-does g c = c.loop-taken.invariant.does

@@ -39,7 +39,7 @@ invariant-loop-taken g l = record {
       → HearsSome g.S.Site.link_shared l.fn.unit l.unit (reach_of (g.S.Site.state l.fn.site)) (reach_of (g.S.Site.state l.site)) l.fn.records.grants.items l.records.grants.items words l.taken;
   may : is_ended l.fn.unit.line ≡ false → MayTake (standing_of l.unit);
   idle : KeepsIdleRows l.fn.unit.service.stage l.unit.service.stage l.fn.records.history.items l.records.history.items;
-  does : g.S.Site.link_shared ≡ false → (g.S.Site.state l.fn.site).shared ≡ false → IsFree (doing l.fn.unit (g.S.Site.state l.fn.site) l.fn.records)
+  does : g.S.Site.link_shared ≡ false → (g.S.Site.state l.fn.site).shared ≡ false → is_ended l.fn.unit.line ≡ false → IsFree (doing l.fn.unit (g.S.Site.state l.fn.site) l.fn.records)
       → DoesFreely (doing l.fn.unit (g.S.Site.state l.fn.site) l.fn.records) (doing l.unit (g.S.Site.state l.site) l.records);
 }
 

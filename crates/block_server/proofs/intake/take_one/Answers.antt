@@ -40,11 +40,12 @@ use Rattle.block_server.specs.Talk.{reach_of}
 use Rattle.block_server.proofs.LastRows.{ended_idle, idle_same}
 use Rattle.block_server.specs.declared.service.Service.{Service}
 use Rattle.std.proofs.Common.{subst, ◌||◌}
-use Rattle.block_server.specs.Receipts.{is_down}
+use Rattle.block_server.specs.Receipts.{is_down, is_ended}
 use Rattle.block_server.specs.Doings.{DoesFreely, Doing, IsFree, doing}
-use Rattle.block_server.proofs.DoingEnds.{drops_all, left_at_start}
-use Rattle.block_server.proofs.DoingHears.{came_doing, came_got, ended_same, freely_none, hearing_free, hears_freely, keeps_none, passes_aside, passes_drops, passes_freely, passes_same, still_doing}
-use Rattle.block_server.proofs.Reading.{known_same}
+use Rattle.block_server.proofs.DoingEnds.{drops_lost, left_at_start}
+use Rattle.crq_session.specs.Handshake.{step_entry}
+use Rattle.block_server.proofs.DoingHears.{came_doing, drops_freely, ended_same, freely_none, hears_freely, init_none, init_sends, one_freely, one_init, passes_freely, passes_same, reply_free, still_doing}
+use Rattle.block_server.proofs.DoingReplies.{plain_none}
 use Rattle.block_server.proofs.intake.take_one.Goals as goal
 
 pub returns-in_err-reserve-clause-once : goal.returns-in_err-reserve-clause-once
@@ -602,43 +603,54 @@ pub returns-in-Reserved-clause-rows : goal.returns-in-Reserved-clause-rows
 returns-in-Reserved-clause-rows g c = idle_same _ _ _ _ refl refl
 
 pub returns-in_default-clause-does : goal.returns-in_default-clause-does
-returns-in_default-clause-does g c = λ link alone free.
-    freely_none _ _ (still_doing _ c.args.unit.now (g.S.Site.state c.args.site.now) (g.S.Site.state c.reserve.new.self) (g.S.Site.state c.poll.new.self) c.args.records.now c.reserve.ensures.rest c.poll.ensures.rest
+returns-in_default-clause-does g c = λ link alone going free.
+    freely_none _ _ (still_doing _ c.args.unit.now (g.S.Site.state c.args.site.now) (g.S.Site.state c.reserve.new.self) (g.S.Site.state c.poll.new.self) c.args.records.now link c.reserve.ensures.rest c.poll.ensures.rest
     (poll_taken _ _ _ c.poll.result (λ number entry is. c.in_default.not-Got number entry is) c.poll.ensures.empty c.poll.ensures.refused) (c.poll.ensures.windows.client ∙ c.reserve.ensures.windows.client) (c.poll.ensures.windows.own ∙ c.reserve.ensures.windows.own)) free
 
 pub returns-in-Command-clause-does : goal.returns-in-Command-clause-does
-returns-in-Command-clause-does g c = λ link alone free.
-    let heard = (came_doing c.args.unit.now (g.S.Site.state c.args.site.now) (g.S.Site.state c.poll.new.self) c.args.records.now (record { number = c.in-Got.number; entry = c.in-Got.entry }) free.waiting (came _ _ (g.S.Site.state c.reserve.new.self).queue _ c.in-Got.number c.in-Got.entry link c.reserve.ensures.rest c.poll.ensures.rest c.in-Got.ensures.got) (c.poll.ensures.windows.client ∙ c.reserve.ensures.windows.client) (c.poll.ensures.windows.own ∙ c.reserve.ensures.windows.own)) in
+returns-in-Command-clause-does g c = λ link alone going free.
+    let heard = (came_doing c.args.unit.now (g.S.Site.state c.args.site.now) (g.S.Site.state c.poll.new.self) c.args.records.now (record { number = c.in-Got.number; entry = c.in-Got.entry }) free.waiting (came _ _ (g.S.Site.state c.reserve.new.self).queue _ c.in-Got.number c.in-Got.entry link c.reserve.ensures.rest c.poll.ensures.rest c.in-Got.ensures.got)
+    (c.poll.ensures.rest.kept ∙ c.reserve.ensures.rest.kept) (c.poll.ensures.windows.client ∙ c.reserve.ensures.windows.client) (c.poll.ensures.windows.own ∙ c.reserve.ensures.windows.own)) in
     on_ok c.take_command.result _ _ (subst (λ (d : Doing). DoesFreely d (doing c.take_command.new.unit (g.S.Site.state c.take_command.new.site) c.take_command.new.records)) (sym heard))
-    (c.take_command.ensures.does link (c.poll.ensures.advances.shared ∙ c.reserve.ensures.advances.shared ∙ alone) (command_first c.in-Got.entry (search rules)) free.waiting (subst IsFree heard free))
+    (c.take_command.ensures.does link (c.poll.ensures.advances.shared ∙ c.reserve.ensures.advances.shared ∙ alone) going (command_first c.in-Got.entry (search rules)) free.waiting (subst IsFree heard free))
 
 pub returns-in-Some-clause-does : goal.returns-in-Some-clause-does
-returns-in-Some-clause-does g c = λ link alone free.
-    hears_freely _ _ _ (came_got c.args.unit.now (g.S.Site.state c.args.site.now) (g.S.Site.state c.poll.new.self) c.args.records.now (record { number = c.in-Got.number; entry = c.in-Got.entry }) (c.args.unit.now.line.closing || is_down c.got-step.new.self) free.waiting (came _ _ (g.S.Site.state c.reserve.new.self).queue _ c.in-Got.number c.in-Got.entry link c.reserve.ensures.rest c.poll.ensures.rest c.in-Got.ensures.got) (c.poll.ensures.windows.client ∙ c.reserve.ensures.windows.client) (c.poll.ensures.windows.own ∙ c.reserve.ensures.windows.own) (got_ended _ _ _ c.in-Got.entry c.got-step.ensures.state))
-    (λ on. passes_aside _ (record (doing c.args.unit.now (g.S.Site.state c.poll.new.self) c.args.records.now) { ended = c.args.unit.now.line.closing || is_down c.got-step.new.self }) _ (passes_same (record { number = c.in-Got.number; entry = c.in-Got.entry }) (record (doing c.args.unit.now (g.S.Site.state c.poll.new.self) c.args.records.now) { ended = c.args.unit.now.line.closing || is_down c.got-step.new.self })) (c.put_reply.ensures.aside c.args.records.now link (keeps_none _ c.requires.none)) (waiting_stands _ _ c.put_reply.ensures.stands)
-    (hearing_free (record { number = c.in-Got.number; entry = c.in-Got.entry }) (record (doing c.args.unit.now (g.S.Site.state c.poll.new.self) c.args.records.now) { ended = c.args.unit.now.line.closing || is_down c.got-step.new.self }) free.waiting on)) free
+returns-in-Some-clause-does g c = λ link alone going free.
+    let sends = c.put_reply.ensures.aside c.args.records.now link in
+    hears_freely _ _ _ (came_doing c.args.unit.now (g.S.Site.state c.args.site.now) (g.S.Site.state c.poll.new.self) c.args.records.now (record { number = c.in-Got.number; entry = c.in-Got.entry }) free.waiting (came _ _ (g.S.Site.state c.reserve.new.self).queue _ c.in-Got.number c.in-Got.entry link c.reserve.ensures.rest c.poll.ensures.rest c.in-Got.ensures.got)
+    (c.poll.ensures.rest.kept ∙ c.reserve.ensures.rest.kept) (c.poll.ensures.windows.client ∙ c.reserve.ensures.windows.client) (c.poll.ensures.windows.own ∙ c.reserve.ensures.windows.own))
+    (λ on. one_freely _ _ (one_init _ _ (init_sends (record { number = c.in-Got.number; entry = c.in-Got.entry }) c.args.unit.now.line.handshake (is_ended c.args.unit.now.line) (record (doing c.args.unit.now (g.S.Site.state c.poll.new.self) c.args.records.now) { handshake = c.got-step.new.self; ended = c.args.unit.now.line.closing || is_down c.got-step.new.self }) _ _ free.waiting (search rules) c.got-step.ensures.state (got_ended _ _ _ c.in-Got.entry c.got-step.ensures.state)
+    (ap step_entry (sym c.got-step.ensures.step) ∙ sym c.reply_of.ensures.reply ∙ c.in-Some.is) sends))
+    (reply_free (record (doing c.args.unit.now (g.S.Site.state c.poll.new.self) c.args.records.now) { handshake = c.got-step.new.self; ended = c.args.unit.now.line.closing || is_down c.got-step.new.self }) _ _ sends (plain_none _ c.in-Some.ensures.may c.in-Some.ensures.plain) (record { waiting = free.waiting; stage = free.stage; kept = free.kept }))) free
 
 pub returns-in-None-clause-does : goal.returns-in-None-clause-does
-returns-in-None-clause-does g c = λ link alone free.
-    hears_freely _ _ _ (came_got c.args.unit.now (g.S.Site.state c.args.site.now) (g.S.Site.state c.poll.new.self) c.args.records.now (record { number = c.in-Got.number; entry = c.in-Got.entry }) (c.args.unit.now.line.closing || is_down c.got-step.new.self) free.waiting (came _ _ (g.S.Site.state c.reserve.new.self).queue _ c.in-Got.number c.in-Got.entry link c.reserve.ensures.rest c.poll.ensures.rest c.in-Got.ensures.got) (c.poll.ensures.windows.client ∙ c.reserve.ensures.windows.client) (c.poll.ensures.windows.own ∙ c.reserve.ensures.windows.own) (got_ended _ _ _ c.in-Got.entry c.got-step.ensures.state))
-    (λ on. passes_freely _ (record (doing c.args.unit.now (g.S.Site.state c.poll.new.self) c.args.records.now) { ended = c.args.unit.now.line.closing || is_down c.got-step.new.self }) (passes_same (record { number = c.in-Got.number; entry = c.in-Got.entry }) (record (doing c.args.unit.now (g.S.Site.state c.poll.new.self) c.args.records.now) { ended = c.args.unit.now.line.closing || is_down c.got-step.new.self })) (hearing_free (record { number = c.in-Got.number; entry = c.in-Got.entry }) (record (doing c.args.unit.now (g.S.Site.state c.poll.new.self) c.args.records.now) { ended = c.args.unit.now.line.closing || is_down c.got-step.new.self }) free.waiting on)) free
+returns-in-None-clause-does g c = λ link alone going free.
+    hears_freely _ _ _ (came_doing c.args.unit.now (g.S.Site.state c.args.site.now) (g.S.Site.state c.poll.new.self) c.args.records.now (record { number = c.in-Got.number; entry = c.in-Got.entry }) free.waiting (came _ _ (g.S.Site.state c.reserve.new.self).queue _ c.in-Got.number c.in-Got.entry link c.reserve.ensures.rest c.poll.ensures.rest c.in-Got.ensures.got)
+    (c.poll.ensures.rest.kept ∙ c.reserve.ensures.rest.kept) (c.poll.ensures.windows.client ∙ c.reserve.ensures.windows.client) (c.poll.ensures.windows.own ∙ c.reserve.ensures.windows.own))
+    (λ on. one_freely _ _ (one_init _ _ (init_none (record { number = c.in-Got.number; entry = c.in-Got.entry }) c.args.unit.now.line.handshake (is_ended c.args.unit.now.line) (record (doing c.args.unit.now (g.S.Site.state c.poll.new.self) c.args.records.now) { handshake = c.got-step.new.self; ended = c.args.unit.now.line.closing || is_down c.got-step.new.self }) free.waiting (search rules) c.got-step.ensures.state (got_ended _ _ _ c.in-Got.entry c.got-step.ensures.state)
+    (ap step_entry (sym c.got-step.ensures.step) ∙ sym c.reply_of.ensures.reply ∙ c.in-None.is)))
+    (record { waiting = free.waiting; stage = free.stage; kept = free.kept })) free
 
 pub returns-in-Event-clause-does : goal.returns-in-Event-clause-does
-returns-in-Event-clause-does g c = λ link alone free.
-    hears_freely _ _ _ (came_got c.args.unit.now (g.S.Site.state c.args.site.now) (g.S.Site.state c.poll.new.self) c.args.records.now (record { number = c.in-Got.number; entry = c.in-Got.entry }) (c.args.unit.now.line.closing || is_down c.got-step-in-Event.new.self) free.waiting (came _ _ (g.S.Site.state c.reserve.new.self).queue _ c.in-Got.number c.in-Got.entry link c.reserve.ensures.rest c.poll.ensures.rest c.in-Got.ensures.got) (c.poll.ensures.windows.client ∙ c.reserve.ensures.windows.client) (c.poll.ensures.windows.own ∙ c.reserve.ensures.windows.own) (got_ended _ _ _ c.in-Got.entry c.got-step-in-Event.ensures.state))
-    (λ on. passes_drops _ (record (doing c.args.unit.now (g.S.Site.state c.poll.new.self) c.args.records.now) { ended = c.args.unit.now.line.closing || is_down c.got-step-in-Event.new.self }) _ (passes_same (record { number = c.in-Got.number; entry = c.in-Got.entry }) (record (doing c.args.unit.now (g.S.Site.state c.poll.new.self) c.args.records.now) { ended = c.args.unit.now.line.closing || is_down c.got-step-in-Event.new.self }))
-    (drops_all _ c.lose_partner.new.unit (g.S.Site.state c.poll.new.self).own.place.unit (g.S.Site.state c.poll.new.self).own.place.unit (g.S.Site.state c.poll.new.self).queue (g.S.Site.state c.poll.new.self).queue (g.S.Site.state c.poll.new.self).client (g.S.Site.state c.poll.new.self).client c.args.records.now c.lose_partner.new.records _ _ _ _ c.lose_partner.ensures.ends refl refl (known_same (g.S.Site.state c.poll.new.self).client)
-    c.lose_partner.ensures.id c.lose_partner.ensures.stage (left_at_start _ _ _ _ free.stage c.lose_partner.ensures.row)) c.lose_partner.ensures.waiting) free
+returns-in-Event-clause-does g c = λ link alone going free.
+    hears_freely _ _ _ (came_doing c.args.unit.now (g.S.Site.state c.args.site.now) (g.S.Site.state c.poll.new.self) c.args.records.now (record { number = c.in-Got.number; entry = c.in-Got.entry }) free.waiting (came _ _ (g.S.Site.state c.reserve.new.self).queue _ c.in-Got.number c.in-Got.entry link c.reserve.ensures.rest c.poll.ensures.rest c.in-Got.ensures.got)
+    (c.poll.ensures.rest.kept ∙ c.reserve.ensures.rest.kept) (c.poll.ensures.windows.client ∙ c.reserve.ensures.windows.client) (c.poll.ensures.windows.own ∙ c.reserve.ensures.windows.own))
+    (λ on. drops_freely _ _ (drops_lost (record { number = c.in-Got.number; entry = c.in-Got.entry }) c.args.unit.now.line.handshake (is_ended c.args.unit.now.line) _ c.lose_partner.new.unit (g.S.Site.state c.poll.new.self).own.place.unit (g.S.Site.state c.poll.new.self).queue (g.S.Site.state c.poll.new.self).client
+    c.args.records.now c.lose_partner.new.records _ _ _ _ free.stage c.lose_partner.ensures.ends c.lose_partner.ensures.id c.lose_partner.ensures.stage (left_at_start _ _ _ _ free.stage c.lose_partner.ensures.row)
+    (search rules) (c.lose_partner.ensures.handshake ∙ c.got-step-in-Event.ensures.state)
+    (ended_same _ _ _ _ c.lose_partner.ensures.closing c.lose_partner.ensures.handshake ∙ got_ended _ _ _ c.in-Got.entry c.got-step-in-Event.ensures.state)) c.lose_partner.ensures.waiting) free
 
 pub returns-in-Unused-clause-does : goal.returns-in-Unused-clause-does
-returns-in-Unused-clause-does g c = λ link alone free.
-    hears_freely _ _ _ (came_doing c.args.unit.now (g.S.Site.state c.args.site.now) (g.S.Site.state c.poll.new.self) c.args.records.now (record { number = c.in-Got.number; entry = c.in-Got.entry }) free.waiting (came _ _ (g.S.Site.state c.reserve.new.self).queue _ c.in-Got.number c.in-Got.entry link c.reserve.ensures.rest c.poll.ensures.rest c.in-Got.ensures.got) (c.poll.ensures.windows.client ∙ c.reserve.ensures.windows.client) (c.poll.ensures.windows.own ∙ c.reserve.ensures.windows.own))
-    (λ on. passes_freely _ (doing c.args.unit.now (g.S.Site.state c.poll.new.self) c.args.records.now) (passes_same (record { number = c.in-Got.number; entry = c.in-Got.entry }) (doing c.args.unit.now (g.S.Site.state c.poll.new.self) c.args.records.now)) (hearing_free (record { number = c.in-Got.number; entry = c.in-Got.entry }) (doing c.args.unit.now (g.S.Site.state c.poll.new.self) c.args.records.now) free.waiting on)) free
+returns-in-Unused-clause-does g c = λ link alone going free.
+    hears_freely _ _ _ (came_doing c.args.unit.now (g.S.Site.state c.args.site.now) (g.S.Site.state c.poll.new.self) c.args.records.now (record { number = c.in-Got.number; entry = c.in-Got.entry }) free.waiting (came _ _ (g.S.Site.state c.reserve.new.self).queue _ c.in-Got.number c.in-Got.entry link c.reserve.ensures.rest c.poll.ensures.rest c.in-Got.ensures.got)
+    (c.poll.ensures.rest.kept ∙ c.reserve.ensures.rest.kept) (c.poll.ensures.windows.client ∙ c.reserve.ensures.windows.client) (c.poll.ensures.windows.own ∙ c.reserve.ensures.windows.own))
+    (λ on. passes_freely _ _ (passes_same (record { number = c.in-Got.number; entry = c.in-Got.entry }) (doing c.args.unit.now (g.S.Site.state c.poll.new.self) c.args.records.now) free.waiting (λ is. search rules) (λ is. search rules)) (record { waiting = free.waiting; stage = free.stage; kept = free.kept })) free
 
 pub returns-in-Reserved-clause-does : goal.returns-in-Reserved-clause-does
-returns-in-Reserved-clause-does g c = λ link alone free.
-    hears_freely _ _ _ (came_doing c.args.unit.now (g.S.Site.state c.args.site.now) (g.S.Site.state c.poll.new.self) c.args.records.now (record { number = c.in-Got.number; entry = c.in-Got.entry }) free.waiting (came _ _ (g.S.Site.state c.reserve.new.self).queue _ c.in-Got.number c.in-Got.entry link c.reserve.ensures.rest c.poll.ensures.rest c.in-Got.ensures.got) (c.poll.ensures.windows.client ∙ c.reserve.ensures.windows.client) (c.poll.ensures.windows.own ∙ c.reserve.ensures.windows.own))
-    (λ on. passes_freely _ (doing c.args.unit.now (g.S.Site.state c.poll.new.self) c.args.records.now) (passes_same (record { number = c.in-Got.number; entry = c.in-Got.entry }) (doing c.args.unit.now (g.S.Site.state c.poll.new.self) c.args.records.now)) (hearing_free (record { number = c.in-Got.number; entry = c.in-Got.entry }) (doing c.args.unit.now (g.S.Site.state c.poll.new.self) c.args.records.now) free.waiting on)) free
+returns-in-Reserved-clause-does g c = λ link alone going free.
+    hears_freely _ _ _ (came_doing c.args.unit.now (g.S.Site.state c.args.site.now) (g.S.Site.state c.poll.new.self) c.args.records.now (record { number = c.in-Got.number; entry = c.in-Got.entry }) free.waiting (came _ _ (g.S.Site.state c.reserve.new.self).queue _ c.in-Got.number c.in-Got.entry link c.reserve.ensures.rest c.poll.ensures.rest c.in-Got.ensures.got)
+    (c.poll.ensures.rest.kept ∙ c.reserve.ensures.rest.kept) (c.poll.ensures.windows.client ∙ c.reserve.ensures.windows.client) (c.poll.ensures.windows.own ∙ c.reserve.ensures.windows.own))
+    (λ on. passes_freely _ _ (passes_same (record { number = c.in-Got.number; entry = c.in-Got.entry }) (doing c.args.unit.now (g.S.Site.state c.poll.new.self) c.args.records.now) free.waiting (λ is. search rules) (λ is. search rules)) (record { waiting = free.waiting; stage = free.stage; kept = free.kept })) free
 
 pub returns-in-Command-clause-goes : goal.returns-in-Command-clause-goes
 returns-in-Command-clause-goes g c = λ alone on. c.take_command.ensures.goes (c.poll.ensures.advances.shared ∙ c.reserve.ensures.advances.shared ∙ alone) on

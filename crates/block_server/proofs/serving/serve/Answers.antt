@@ -65,7 +65,8 @@ use Rattle.block_server.specs.Standing.{stood}
 use Rattle.block_server.proofs.LastRows.{adds_first}
 use Rattle.block_server.specs.Judged.{row_in}
 use Rattle.std.proofs.Common.{inr}
-use Rattle.block_server.proofs.DoingAnswers.{doing_same, rests_free, turn_from, turn_none, turn_one}
+use Rattle.block_server.proofs.DoingAsides.{doing_noted}
+use Rattle.block_server.proofs.DoingAnswers.{rests_free, turn_from, turn_none, turn_one}
 use Rattle.block_server.proofs.DoingServes.{does_log_out, does_prepare, logs_out_first, made_alone, pending_on, prepares, turn_then}
 use Rattle.block_server.proofs.Taking.{id_stands}
 use Rattle.block_server.specs.Receipts.{is_ended}
@@ -406,10 +407,11 @@ returns-in-Logout-clause-serves g c = λ request rest servable.
 pub returns-clause-serves : goal.returns-clause-serves
 returns-clause-serves g c = λ request rest servable.
     let front = front_is _ _ c.in-Some.ensures.item.3 in
+    let other : c.in-Some.request.now.order ≢ orders.Logout = search rules in
     serve_first _ c.args.unit.now c.note_stage.new.unit c.answer.new.unit (g.S.Site.state c.args.site.now) (g.S.Site.state c.prepare.new.site) (g.S.Site.state c.answer.new.site) _ _ _ c.in-Some.request.now request front.0 rest c.prepare.new.service.stage
     c.answer.result servable front.1 c.prepare.ensures.advances c.prepare.ensures.queue c.note_stage.ensures.id c.note_stage.ensures.pending c.note_stage.ensures.line (waiting_stands _ _ c.note_stage.ensures.stands) c.note_stage.ensures.logins
     (ap (λ (s : Service). s.stage) c.note_stage.ensures.service) c.prepare.ensures.grants (c.in_ok-prepare.ensures.went (λ is. search rules))
-    (c.in_ok-prepare.ensures.suits (subst (SuitsStage c.args.unit.now.logins.current c.in-Some.request.now.order) (sym servable.stage) tt))
+    (c.in_ok-prepare.ensures.suits (subst (SuitsStage c.args.unit.now.logins.current c.in-Some.request.now.order) (sym servable.stage) tt)) other
     (λ outcome at parts link apart on may room. c.answer.ensures.serves request rest outcome at parts link apart on may room)
 
 pub returns-in_default-clause-wrote : goal.returns-in_default-clause-wrote
@@ -458,7 +460,7 @@ returns-clause-leaves g c = λ request rest servable other.
     c.args.records.now.history.items c.prepare.new.records.history.items c.answer.new.records.history.items c.in-Some.request.now request front.0 rest
     c.prepare.new.service.stage c.prepare.new.service.answer.items c.answer.result servable front.1 c.prepare.ensures.advances c.answer.ensures.advances c.prepare.ensures.queue c.note_stage.ensures.pending
     (ap (λ (s : Service). s.stage) c.note_stage.ensures.service) (ap (λ (s : Service). s.answer.items) c.note_stage.ensures.service) (c.in_ok-prepare.ensures.went (λ is. search rules))
-    (c.in_ok-prepare.ensures.suits (subst (SuitsStage c.args.unit.now.logins.current c.in-Some.request.now.order) (sym servable.stage) tt))
+    (c.in_ok-prepare.ensures.suits (subst (SuitsStage c.args.unit.now.logins.current c.in-Some.request.now.order) (sym servable.stage) tt)) other
     (c.in_ok-prepare.ensures.made (subst (λ (stage : Stage). HasAnswerAt (login_state c.args.unit.now.logins) c.in-Some.request.now stage c.args.unit.now.service.answer.items) (sym servable.stage) tt))
     (c.in_ok-prepare.ensures.rows (ap row_in servable.stage)) c.answer.ensures.rows
     (c.in_ok-prepare.ensures.bears (g.S.Site.state c.args.site.now).client (known_same (g.S.Site.state c.args.site.now).client) servable.apart servable.stage)
@@ -557,7 +559,7 @@ pub returns-in-Logout-clause-does : goal.returns-in-Logout-clause-does
 returns-in-Logout-clause-does g c = λ link apart free going.
     let front = front_is _ _ c.in-Some.ensures.item.3 in
     let asked : c.in-Some.request.now.order ≡ orders.Logout = search rules in
-    turn_from _ _ _ (doing_same c.args.unit.now (g.S.Site.state c.args.site.now) (g.S.Site.state c.args.site.now) c.args.records.now c.make_room.new.self refl refl refl refl refl refl c.make_room.ensures.lists.history c.make_room.ensures.lists.grants)
+    turn_from _ _ _ (doing_noted c.args.unit.now (g.S.Site.state c.args.site.now) c.args.records.now c.make_room.new.self c.make_room.ensures.lists.history c.make_room.ensures.lists.grants)
     (turn_one _ _
     (does_log_out _ _ (logs_out_first c.args.unit.now c.log_out.new.unit (g.S.Site.state c.args.site.now) c.make_room.new.self c.log_out.new.records c.in-Some.request.now front.0 front.1 asked free.stage
     (id_stands _ _ c.log_out.ensures.stands) (c.log_out.ensures.out (g.S.Site.state c.args.site.now).queue c.session.ensures) c.log_out.ensures.history))

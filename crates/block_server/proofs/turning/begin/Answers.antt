@@ -13,8 +13,7 @@ use Rattle.std.proofs.Common.{inr}
 use Rattle.std.proofs.Common.{◌∙◌, sym, true≢false}
 use Rattle.block_server.specs.Talk.{reach_of}
 use Rattle.block_server.proofs.FirstTurns.{begins_alone, stays_alone}
-use Rattle.block_server.proofs.Asides.{aside_none, aside_on}
-use Rattle.block_server.specs.Doings.{doing}
+use Rattle.block_server.proofs.Asides.{begun_reply, is_initialize, not_initialize}
 use Rattle.block_server.proofs.turning.begin.Goals as goal
 
 pub returns-in-Some-clause-once : goal.returns-in-Some-clause-once
@@ -93,13 +92,9 @@ returns-in_default-clause-alone g c = λ alone off.
     })
 
 pub returns-in-Some-clause-aside : goal.returns-in-Some-clause-aside
-returns-in-Some-clause-aside g c = λ records alone kept.
-    let unit = c.args.unit.now in
-    let site = g.S.Site.state c.args.site.now in
-    let line = record unit.line { handshake = c.registered.new.self } in
-    aside_on (doing unit site records) (doing (record unit { line = line; moved = true }) site records) _ (aside_none unit line true site records refl) (c.put_reply-next.ensures.aside records alone kept)
+returns-in-Some-clause-aside g c = λ records alone.
+    begun_reply c.args.unit.now c.registered.new.self (g.S.Site.state c.args.site.now) records _ c.in-Some.initialize c.requires.stays c.registered.ensures.state
+    (is_initialize _ _ _ c.in-Some.is c.reply_of.ensures.reply c.registered.ensures.step) (c.put_reply-next.ensures.aside records alone)
 
 pub returns-in_default-clause-aside : goal.returns-in_default-clause-aside
-returns-in_default-clause-aside g c = λ records alone kept.
-    let unit = c.args.unit.now in
-    aside_none unit (record unit.line { handshake = c.registered.new.self }) true (g.S.Site.state c.args.site.now) records refl
+returns-in_default-clause-aside g c = λ records alone. absurd (not_initialize _ _ (λ entry is. c.in_default.not-Some entry is) c.reply_of.ensures.reply c.registered.ensures.step)

@@ -1,4 +1,4 @@
-use Rattle.std.proofs.Common.{true, refl, sym, ◌∙◌}
+use Rattle.std.proofs.Common.{inr, true, true≢false, refl, sym, ◌∙◌}
 use Rattle.block_server.specs.Granting.{login_state}
 use Rattle.block_server.proofs.Agreeing.{agrees_same, is_down}
 use Rattle.block_server.proofs.Readying.{idles_reserves, sender_now}
@@ -12,7 +12,7 @@ use Rattle.block_server.proofs.OwingCalls.{closing_ended}
 use Rattle.block_server.proofs.Quieting.{still_reserves}
 use Rattle.block_server.proofs.ComingParts.{comes_freed, comes_none, work_later}
 use Rattle.block_server.specs.Steps.{NoStage}
-use Rattle.block_server.proofs.Asides.{aside_still}
+use Rattle.block_server.proofs.Asides.{frees_line, tells_freed, tells_none}
 use Rattle.block_server.proofs.turning.free.Goals as goal
 
 pub returns-in-Busy-clause-once : goal.returns-in-Busy-clause-once
@@ -96,16 +96,17 @@ pub returns-in-Parameter-clause-comes : goal.returns-in-Parameter-clause-comes
 returns-in-Parameter-clause-comes g c = comes_none NoStage _ _ _ _ (still_reserves _ _ c.in-Parameter.ensures.refused) refl refl
 
 pub returns-in-Busy-clause-aside : goal.returns-in-Busy-clause-aside
-returns-in-Busy-clause-aside g c = λ records alone.
-    aside_still c.args.unit.now c.args.unit.now.line c.args.unit.now.moved (g.S.Site.state c.args.site.now) (g.S.Site.state c.free.new.self) records refl c.free.ensures.windows c.free.ensures.advances
-    c.free.ensures.rest.last_session c.free.ensures.rest.taken c.free.ensures.plain c.free.ensures.logins
+returns-in-Busy-clause-aside g c = λ records alone closing. absurd (true≢false (sym c.in-Busy.ensures.busy.shared_end ∙ alone))
 
 pub returns-in-Success-clause-aside : goal.returns-in-Success-clause-aside
-returns-in-Success-clause-aside g c = λ records alone.
-    aside_still c.args.unit.now c.freed.new.self true (g.S.Site.state c.args.site.now) (g.S.Site.state c.free.new.self) records c.freed.ensures.kept c.free.ensures.windows c.free.ensures.advances
-    c.free.ensures.rest.last_session c.free.ensures.rest.taken c.free.ensures.plain c.free.ensures.logins
+returns-in-Success-clause-aside g c = λ records alone closing.
+    inr (frees_line _ c.args.unit.now c.freed.new.self true (g.S.Site.state c.args.site.now) (g.S.Site.state c.free.new.self) records alone c.free.ensures.windows c.free.ensures.rest
+    closing c.freed.ensures.handshake c.freed.ensures.kept c.in-Success.ensures.success.freed
+    (tells_freed _ c.args.unit.now (record c.args.unit.now { line = c.freed.new.self; moved = true }) (g.S.Site.state c.args.site.now) (g.S.Site.state c.free.new.self) records records alone c.free.ensures.rest c.in-Success.ensures.success))
 
 pub returns-in-Parameter-clause-aside : goal.returns-in-Parameter-clause-aside
-returns-in-Parameter-clause-aside g c = λ records alone.
-    aside_still c.args.unit.now c.freed-in-Parameter.new.self c.args.unit.now.moved (g.S.Site.state c.args.site.now) (g.S.Site.state c.free.new.self) records c.freed-in-Parameter.ensures.kept c.free.ensures.windows c.free.ensures.advances
-    c.free.ensures.rest.last_session c.free.ensures.rest.taken c.free.ensures.plain c.free.ensures.logins
+returns-in-Parameter-clause-aside g c = λ records alone closing.
+    inr (frees_line _ c.args.unit.now c.freed-in-Parameter.new.self c.args.unit.now.moved (g.S.Site.state c.args.site.now) (g.S.Site.state c.free.new.self) records alone c.free.ensures.windows c.free.ensures.rest
+    closing c.freed-in-Parameter.ensures.handshake c.freed-in-Parameter.ensures.kept (c.in-Parameter.ensures.refused.registered ∙ c.free.ensures.parameter.0 c.in-Parameter.is)
+    (inr (tells_none c.args.unit.now (record c.args.unit.now { line = c.freed-in-Parameter.new.self }) (g.S.Site.state c.args.site.now) (g.S.Site.state c.free.new.self) records records
+    (c.free.ensures.parameter.0 c.in-Parameter.is) c.in-Parameter.ensures.refused)))

@@ -1,11 +1,11 @@
-use Rattle.std.proofs.Common.{refl}
+use Rattle.std.proofs.Common.{inl, refl}
 use Rattle.block_server.proofs.Readying.{idles_same}
 use Rattle.block_server.proofs.Onces.{once_same}
 use Rattle.std.proofs.Common.{rules}
 use Rattle.block_server.proofs.Quieting.{still_same}
 use Rattle.block_server.proofs.ComingParts.{comes_none}
 use Rattle.block_server.specs.Steps.{NoStage}
-use Rattle.block_server.proofs.Asides.{aside_none}
+use Rattle.block_server.proofs.Asides.{calls_none}
 use Rattle.block_server.proofs.turning.free_closed.Goals as goal
 
 pub returns-then-not-unit-clause-once : goal.returns-then-not-unit-clause-once
@@ -36,4 +36,7 @@ pub returns-then-not-unit-clause-comes : goal.returns-then-not-unit-clause-comes
 returns-then-not-unit-clause-comes g c = comes_none NoStage _ _ _ _ (still_same _) refl refl
 
 pub returns-then-not-unit-clause-aside : goal.returns-then-not-unit-clause-aside
-returns-then-not-unit-clause-aside g c = λ records alone. aside_none c.args.unit.now c.args.unit.now.line c.args.unit.now.moved (g.S.Site.state c.args.site.now) records refl
+returns-then-not-unit-clause-aside g c = λ records alone. inl (calls_none c.args.unit.now (g.S.Site.state c.args.site.now) records)
+
+pub returns-clause-aside : goal.returns-clause-aside
+returns-clause-aside g c = λ records alone. c.free.ensures.aside records alone (search rules)

@@ -26,8 +26,10 @@ use Rattle.crq_session.specs.declared.handshake.Handshake.TheVariants.{Down}
 use Rattle.std.proofs.Common.{◌≡◌}
 use Rattle.block_server.proofs.FirstTurns.{new_still, opens_from, quiet_first}
 use Rattle.block_server.specs.Talk.{StaysQuiet}
-use Rattle.block_server.proofs.Asides.{aside_on, aside_reserved, turn_aside, turn_opened}
-use Rattle.block_server.specs.Doings.{doing}
+use Rattle.block_server.proofs.Asides.{turn_event, turn_freed, turn_opened, turn_then}
+use Rattle.block_server.proofs.DoingAnswers.{turn_from}
+use Rattle.block_server.proofs.DoingAsides.{doing_same}
+use Rattle.block_server.specs.Doings.{IsAtRest, doing}
 use Rattle.block_server.proofs.turning.open_line.Goals as goal
 
 pub returns-in_err-reserve-clause-once : goal.returns-in_err-reserve-clause-once
@@ -329,41 +331,31 @@ returns-clause-opens g c = λ is.
 pub returns-then-eq-clause-does : goal.returns-then-eq-clause-does
 returns-then-eq-clause-does g c = λ records alone rests.
     let unit = c.args.unit.now in
-    let first = aside_on (doing unit (g.S.Site.state c.args.site.now) records) _ (doing c.push_event.new.unit (g.S.Site.state c.push_event.new.site) records)
-    (aside_reserved unit (g.S.Site.state c.args.site.now) (g.S.Site.state c.reserve.new.self) records c.reserve.ensures.rest c.reserve.ensures.windows c.reserve.ensures.advances)
-    (c.push_event.ensures.aside records alone) in
-    turn_aside _ _ first (waiting_stands _ _ c.push_event.ensures.stands) (ended_stands _ _ c.push_event.ensures.stands) rests
+    let same = doing_same unit (g.S.Site.state c.args.site.now) (g.S.Site.state c.reserve.new.self) records records c.reserve.ensures.advances.own_place c.reserve.ensures.rest c.reserve.ensures.windows.client refl refl in
+    let pushed = turn_event _ (doing c.push_event.new.unit (g.S.Site.state c.push_event.new.site) records) (c.push_event.ensures.aside records alone) (subst IsAtRest (sym same) rests) in
+    turn_from _ _ _ same pushed
 
 pub returns-then-eq-2-clause-does : goal.returns-then-eq-2-clause-does
 returns-then-eq-2-clause-does g c = λ records alone rests.
     let unit = c.args.unit.now in
-    let first = aside_on (doing unit (g.S.Site.state c.args.site.now) records) _ (doing c.push_event.new.unit (g.S.Site.state c.push_event.new.site) records)
-    (aside_reserved unit (g.S.Site.state c.args.site.now) (g.S.Site.state c.reserve.new.self) records c.reserve.ensures.rest c.reserve.ensures.windows c.reserve.ensures.advances)
-    (c.push_event.ensures.aside records alone) in
-    let freed = aside_on _ _ (doing c.free_closed.new.unit (g.S.Site.state c.free_closed.new.site) records)
-    first (c.free_closed.ensures.aside records alone) in
-    let stands = c.free_closed.ensures.stands ∙ c.push_event.ensures.stands in
-    turn_aside _ _ freed (waiting_stands _ _ stands) (ended_stands _ _ stands) rests
+    let same = doing_same unit (g.S.Site.state c.args.site.now) (g.S.Site.state c.reserve.new.self) records records c.reserve.ensures.advances.own_place c.reserve.ensures.rest c.reserve.ensures.windows.client refl refl in
+    let pushed = turn_event _ (doing c.push_event.new.unit (g.S.Site.state c.push_event.new.site) records) (c.push_event.ensures.aside records alone) (subst IsAtRest (sym same) rests) in
+    let freed = turn_freed _ (doing c.free_closed.new.unit (g.S.Site.state c.free_closed.new.site) records) (c.free_closed.ensures.aside records alone) pushed.rests in
+    turn_from _ _ _ same (turn_then _ _ _ pushed freed)
 
 pub returns-clause-does : goal.returns-clause-does
 returns-clause-does g c = λ records alone rests.
     let unit = c.args.unit.now in
-    let first = aside_on (doing unit (g.S.Site.state c.args.site.now) records) _ (doing c.push_event.new.unit (g.S.Site.state c.push_event.new.site) records)
-    (aside_reserved unit (g.S.Site.state c.args.site.now) (g.S.Site.state c.reserve.new.self) records c.reserve.ensures.rest c.reserve.ensures.windows c.reserve.ensures.advances)
-    (c.push_event.ensures.aside records alone) in
-    let freed = aside_on _ _ (doing c.free_closed.new.unit (g.S.Site.state c.free_closed.new.site) records)
-    first (c.free_closed.ensures.aside records alone) in
-    let stands = c.free_closed.ensures.stands ∙ c.push_event.ensures.stands in
-    turn_aside _ _ freed (waiting_stands _ _ stands) (ended_stands _ _ stands) rests
+    let same = doing_same unit (g.S.Site.state c.args.site.now) (g.S.Site.state c.reserve.new.self) records records c.reserve.ensures.advances.own_place c.reserve.ensures.rest c.reserve.ensures.windows.client refl refl in
+    let pushed = turn_event _ (doing c.push_event.new.unit (g.S.Site.state c.push_event.new.site) records) (c.push_event.ensures.aside records alone) (subst IsAtRest (sym same) rests) in
+    let freed = turn_freed _ (doing c.free_closed.new.unit (g.S.Site.state c.free_closed.new.site) records) (c.free_closed.ensures.aside records alone) pushed.rests in
+    turn_from _ _ _ same (turn_then _ _ _ pushed freed)
 
 pub returns-then-is_down-clause-does : goal.returns-then-is_down-clause-does
 returns-then-is_down-clause-does g c = λ records alone rests.
     let unit = c.args.unit.now in
-    let first = aside_on (doing unit (g.S.Site.state c.args.site.now) records) _ (doing c.push_event.new.unit (g.S.Site.state c.push_event.new.site) records)
-    (aside_reserved unit (g.S.Site.state c.args.site.now) (g.S.Site.state c.reserve.new.self) records c.reserve.ensures.rest c.reserve.ensures.windows c.reserve.ensures.advances)
-    (c.push_event.ensures.aside records alone) in
-    let freed = aside_on _ _ (doing c.free_closed.new.unit (g.S.Site.state c.free_closed.new.site) records)
-    first (c.free_closed.ensures.aside records alone) in
-    let stands = c.free_closed.ensures.stands ∙ c.push_event.ensures.stands in
-    turn_opened _ (doing c.free_closed.new.unit (g.S.Site.state c.free_closed.new.site) records) _ freed (waiting_stands _ _ stands) (ended_stands _ _ stands)
-    (down_ended _ _ (search rules)) c.register.ensures.waiting (c.register.ensures.aside records alone) rests
+    let same = doing_same unit (g.S.Site.state c.args.site.now) (g.S.Site.state c.reserve.new.self) records records c.reserve.ensures.advances.own_place c.reserve.ensures.rest c.reserve.ensures.windows.client refl refl in
+    let pushed = turn_event _ (doing c.push_event.new.unit (g.S.Site.state c.push_event.new.site) records) (c.push_event.ensures.aside records alone) (subst IsAtRest (sym same) rests) in
+    let freed = turn_freed _ (doing c.free_closed.new.unit (g.S.Site.state c.free_closed.new.site) records) (c.free_closed.ensures.aside records alone) pushed.rests in
+    let opened = turn_opened _ (doing c.register.new.unit (g.S.Site.state c.register.new.site) records) (c.register.ensures.aside records alone) (down_ended _ _ (search rules)) freed.rests in
+    turn_from _ _ _ same (turn_then _ _ _ (turn_then _ _ _ pushed freed) opened)

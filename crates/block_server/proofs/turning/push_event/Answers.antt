@@ -1,4 +1,4 @@
-use Rattle.std.proofs.Common.{refl, true}
+use Rattle.std.proofs.Common.{inl, inr, refl, true}
 use Rattle.block_server.proofs.Agreeing.{agrees_same}
 use Rattle.block_server.proofs.Readying.{full_now, idles_pushes}
 use Rattle.block_server.proofs.Onces.{once_same}
@@ -6,7 +6,7 @@ use Rattle.block_server.proofs.Jointly.{keeps_pass}
 use Rattle.block_server.proofs.Owing.{owes_seen}
 use Rattle.block_server.proofs.OwingCalls.{seen_pushes}
 use Rattle.block_server.proofs.Talks.{none_kept, pushes_none}
-use Rattle.block_server.proofs.Asides.{aside_still}
+use Rattle.block_server.proofs.Asides.{calls_only, lost_settles, put_settles, settles_event}
 use Rattle.block_server.proofs.turning.push_event.Goals as goal
 
 pub returns-in-Nothing-clause-once : goal.returns-in-Nothing-clause-once
@@ -65,15 +65,15 @@ returns-in-Kept-clause-idle g c = λ alone none. absurd (none_kept _ none c.in-K
 
 pub returns-in-Nothing-clause-aside : goal.returns-in-Nothing-clause-aside
 returns-in-Nothing-clause-aside g c = λ records alone.
-    aside_still c.args.unit.now c.args.unit.now.line c.args.unit.now.moved (g.S.Site.state c.args.site.now) (g.S.Site.state c.push_event.new.self) records refl c.push_event.ensures.windows c.push_event.ensures.advances
-    c.push_event.ensures.rest.last_session c.push_event.ensures.rest.taken c.push_event.ensures.plain c.push_event.ensures.logins
+    inr (settles_event _ c.args.unit.now c.args.unit.now.moved (g.S.Site.state c.args.site.now) (g.S.Site.state c.push_event.new.self) records alone c.push_event.ensures.windows c.push_event.ensures.rest
+    c.in-Nothing.ensures.nothing.kept (lost_settles _ _ _ _ c.in-Nothing.ensures.nothing.loses))
 
 pub returns-in-Put-clause-aside : goal.returns-in-Put-clause-aside
 returns-in-Put-clause-aside g c = λ records alone.
-    aside_still c.args.unit.now c.args.unit.now.line true (g.S.Site.state c.args.site.now) (g.S.Site.state c.push_event.new.self) records refl c.push_event.ensures.windows c.push_event.ensures.advances
-    c.push_event.ensures.rest.last_session c.push_event.ensures.rest.taken c.push_event.ensures.plain c.push_event.ensures.logins
+    inr (settles_event _ c.args.unit.now true (g.S.Site.state c.args.site.now) (g.S.Site.state c.push_event.new.self) records alone c.push_event.ensures.windows c.push_event.ensures.rest
+    c.in-Put.ensures.put.kept (put_settles _ _ _ _ c.in-Put.ensures.put.some c.in-Put.ensures.put.puts))
 
 pub returns-in-Kept-clause-aside : goal.returns-in-Kept-clause-aside
 returns-in-Kept-clause-aside g c = λ records alone.
-    aside_still c.args.unit.now c.args.unit.now.line c.args.unit.now.moved (g.S.Site.state c.args.site.now) (g.S.Site.state c.push_event.new.self) records refl c.push_event.ensures.windows c.push_event.ensures.advances
-    c.push_event.ensures.rest.last_session c.push_event.ensures.rest.taken c.push_event.ensures.plain c.push_event.ensures.logins
+    inl (calls_only c.args.unit.now (g.S.Site.state c.args.site.now) (g.S.Site.state c.push_event.new.self) records c.push_event.ensures.windows c.push_event.ensures.rest.place c.push_event.ensures.rest.last_session
+    c.push_event.ensures.rest.taken c.push_event.ensures.rest.registered c.in-Kept.ensures.still.kept c.in-Kept.ensures.still.full.sent (c.push_event.ensures.rest.counts.same_session alone))

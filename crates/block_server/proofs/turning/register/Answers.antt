@@ -1,6 +1,6 @@
 use Rattle.block_server.proofs.Deciding.{judges_session}
 use Rattle.block_server.proofs.Jointly.{works_pass}
-use Rattle.std.proofs.Common.{refl}
+use Rattle.std.proofs.Common.{inr, refl}
 use Rattle.block_server.proofs.Advancing.{advances_on}
 use Rattle.block_server.proofs.Agreeing.{agrees_same}
 use Rattle.block_server.proofs.Onces.{once_on, once_same}
@@ -16,8 +16,7 @@ use Rattle.block_server.proofs.ComingParts.{comes_none, less_later, register_sti
 use Rattle.block_server.specs.Steps.{NoStage}
 use Rattle.block_server.specs.Talk.{reach_of}
 use Rattle.block_server.proofs.FirstTurns.{opens_not, opens_unit}
-use Rattle.block_server.proofs.Asides.{aside_on, aside_opened, aside_still}
-use Rattle.block_server.specs.Doings.{doing}
+use Rattle.block_server.proofs.Asides.{calls_unregistered, opens_line}
 use Rattle.block_server.proofs.turning.register.Goals as goal
 
 pub returns-in_default-clause-once : goal.returns-in_default-clause-once
@@ -154,23 +153,16 @@ returns-in_default-clause-opens g c = λ is.
     c.register.ensures.busy c.register.ensures.stands is.unregistered is.event)
 
 pub returns-in_default-clause-aside : goal.returns-in_default-clause-aside
-returns-in_default-clause-aside g c = λ records alone kept.
-    let session = register_session _ _ _ c.register.result (λ is. c.in_default.not-Success is) (λ control is. c.in_default.not-Closed control is) c.register.ensures.busy c.register.ensures.refused in
-    aside_still c.args.unit.now c.args.unit.now.line c.args.unit.now.moved (g.S.Site.state c.args.site.now) (g.S.Site.state c.register.new.self) records refl c.register.ensures.windows c.register.ensures.advances
-    session c.register.ensures.rest.taken c.register.ensures.plain c.register.ensures.logins
+returns-in_default-clause-aside g c = λ records alone.
+    inr (calls_unregistered _ c.args.unit.now (g.S.Site.state c.args.site.now) (g.S.Site.state c.register.new.self) records c.register.result alone
+    (λ is. c.in_default.not-Success is) (λ control is. c.in_default.not-Closed control is) c.register.ensures.busy c.register.ensures.refused c.register.ensures.windows c.register.ensures.rest)
 
 pub returns-in-Success-clause-aside : goal.returns-in-Success-clause-aside
-returns-in-Success-clause-aside g c = λ records alone kept.
-    let unit = c.args.unit.now in
-    aside_on _ (doing unit (g.S.Site.state c.register.new.self) records) _
-    (aside_opened unit unit.line unit.moved (g.S.Site.state c.args.site.now) (g.S.Site.state c.register.new.self) records refl c.register.ensures.windows c.register.ensures.advances
-    (c.in-Success.ensures.opened.none_taken) (c.in-Success.ensures.opened.none_received alone) c.register.ensures.plain c.register.ensures.logins)
-    (c.begin.ensures.aside records alone kept)
+returns-in-Success-clause-aside g c = λ records alone.
+    inl (opens_line _ c.args.unit.now (g.S.Site.state c.args.site.now) (g.S.Site.state c.register.new.self) records _ alone c.requires.down c.register.ensures.windows c.register.ensures.rest
+    c.in-Success.ensures.opened (c.begin.ensures.aside records alone))
 
 pub returns-in-Closed-clause-aside : goal.returns-in-Closed-clause-aside
-returns-in-Closed-clause-aside g c = λ records alone kept.
-    let unit = c.args.unit.now in
-    aside_on _ (doing unit (g.S.Site.state c.register.new.self) records) _
-    (aside_opened unit unit.line unit.moved (g.S.Site.state c.args.site.now) (g.S.Site.state c.register.new.self) records refl c.register.ensures.windows c.register.ensures.advances
-    (c.in-Closed.ensures.opened.none_taken) (c.in-Closed.ensures.opened.none_received alone) c.register.ensures.plain c.register.ensures.logins)
-    (c.begin-in-Closed.ensures.aside records alone kept)
+returns-in-Closed-clause-aside g c = λ records alone.
+    inl (opens_line _ c.args.unit.now (g.S.Site.state c.args.site.now) (g.S.Site.state c.register.new.self) records _ alone c.requires.down c.register.ensures.windows c.register.ensures.rest
+    c.in-Closed.ensures.opened (c.begin-in-Closed.ensures.aside records alone))

@@ -601,7 +601,8 @@ returns-then-eq-3-clause-does g c = λ alone apart rests.
     opened (c.in_ok-put_kept.ensures.does alone opened.rests) in
     let still = c.put_kept.ensures.advances.shared ∙ c.open_line.ensures.advances.shared ∙ apart in
     let free = free_unkept _ (none_next c.in_ok-put_kept.field-0 _ c.in_ok-put_kept.ensures.none (search rules)) put.rests in
-    let did = c.in_ok-take_in.ensures.does alone still free in
+    let on = ended_stands _ _ c.put_kept.ensures.stands ∙ c.in_ok-open_line.ensures.goes_on (search rules) in
+    let did = c.in_ok-take_in.ensures.does alone still on free in
     let took = turn_freely _ _ (doing c.take_in.new.unit (g.S.Site.state c.take_in.new.site) c.take_in.new.records) put did in
     took
 
@@ -612,8 +613,9 @@ returns-clause-does g c = λ alone apart rests.
     opened (c.in_ok-put_kept.ensures.does alone opened.rests) in
     let still = c.put_kept.ensures.advances.shared ∙ c.open_line.ensures.advances.shared ∙ apart in
     let free = free_unkept _ (none_next c.in_ok-put_kept.field-0 _ c.in_ok-put_kept.ensures.none (search rules)) put.rests in
-    let did = c.in_ok-take_in.ensures.does alone still free in
+    let on = ended_stands _ _ c.put_kept.ensures.stands ∙ c.in_ok-open_line.ensures.goes_on (search rules) in
+    let did = c.in_ok-take_in.ensures.does alone still on free in
     let took = turn_freely _ _ (doing c.take_in.new.unit (g.S.Site.state c.take_in.new.site) c.take_in.new.records) put did in
-    let going = c.in_ok-take_in.ensures.goes alone still (ended_stands _ _ c.put_kept.ensures.stands ∙ c.in_ok-open_line.ensures.goes_on (search rules)) (search rules) in
+    let going = c.in_ok-take_in.ensures.goes alone still on (search rules) in
     on_ok c.serve.result _ _ (turn_then _ (doing c.take_in.new.unit (g.S.Site.state c.take_in.new.site) c.take_in.new.records) (doing c.serve.new.unit (g.S.Site.state c.serve.new.site) c.serve.new.records) took)
     (c.serve.ensures.does alone (c.take_in.ensures.advances.shared ∙ still) did.free (inl going))

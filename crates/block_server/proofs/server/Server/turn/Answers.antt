@@ -3,10 +3,9 @@ use Rattle.std.proofs.Math.Logic.{∥∥₁_elim, ∥∥₁_map}
 use Rattle.std.proofs.lemmas.Option.{slice_get_read}
 use Rattle.vio_num.specs.declared.names.UnitId.{UnitId}
 use Rattle.crq_session.specs.EndState.{EndState}
-use Rattle.block_server.specs.Advances.{PutsNow}
 use Rattle.block_server.specs.Causes.{anything}
 use Rattle.tce_window.specs.PortState.{PortState}
-use Rattle.block_server.specs.Ready.{Agrees, AgreesAt, NothingReady}
+use Rattle.block_server.specs.Ready.{Agrees, AgreesAt}
 use Rattle.block_server.specs.Serving.{Terms, held, terms_of}
 use Rattle.block_server.specs.SiteState.{Lenders}
 use Rattle.block_server.specs.Units.{AnswersItsRows, AreServing, ServesItsRows, grant_of, granted_by}
@@ -28,8 +27,7 @@ use Rattle.block_server.specs.Rejecting.{LinesTellLogin}
 use Rattle.block_server.proofs.Ledgers.{accounted_first, in_order_turn}
 use Rattle.block_server.specs.Causes.{told_to}
 use Rattle.block_server.specs.Dealt.{HasDealt, KnowsSends}
-use Rattle.block_server.specs.Turns.{IsStill, way_of}
-use Rattle.block_server.proofs.ComingTurns.{Differs, differs_by, way_moved}
+use Rattle.block_server.proofs.ComingTurns.{differs_by, way_moved}
 use Rattle.std.specs.Prelude.{OnOk}
 use Rattle.block_server.specs.Talk.{UnitTalksOn, reach}
 use Rattle.block_server.proofs.Talks.{calm_from, talks_from, unit_talks}
@@ -45,54 +43,170 @@ use Rattle.block_server.proofs.ComingParts.{comes_apart}
 use Rattle.block_server.proofs.Quieting.{on_ok}
 use Rattle.block_server.proofs.Telling.{told_moved, told_on, told_quiet, told_rests}
 use Rattle.block_server.specs.Doings.{UnitDoes}
+use Rattle.block_server.specs.TurnLeaves.{CopiesGoOn, PortsGoOn, SaysMoved}
+use Rattle.block_server.specs.TurnTold.{stock}
+use Rattle.std.proofs.lemmas.List.{length-set}
 use Rattle.block_server.proofs.server.Server.turn.Goals as goal
 
-pub returns-clause-answers : goal.returns-clause-answers
-returns-clause-answers g c =
+pub returns-clause-stays : goal.returns-clause-stays
+returns-clause-stays g c =
+    let server = c.args.self.now in
+    let there : slice_get server.units.items c.args.unit ≡ Some c.index_mut-turned.result.now =
+    slice_get_read server.units.items _ c.args.unit _ server.units.ok.0 c.requires.unit c.index_mut-turned.ensures.value in
+    record {
+      units = length-set server.units.items c.args.unit c.turn-done.new.unit;
+      partition = refl;
+      count = ∥∥₁_elim server.serving (same_prop c.turn-done.new.disk.count server.disk.count)
+          (λ (all : AreServing (terms_of anything server.disk.count) server.partition server.units.items server.records.history.items).
+          ap (λ (terms : Terms). terms.size) (c.turn-done.ensures.once anything (λ news is. refl) (all c.args.unit c.index_mut-turned.result.now there).serving).terms);
+      others_stay = λ k apart. get_set_other server.units.items c.args.unit k c.turn-done.new.unit apart;
+    }
+
+pub returns-clause-ports : goal.returns-clause-ports
+returns-clause-ports g c =
+    let lent = c.turn-done.ensures.advances.reached in
+    let queue = sym (ap g.C.CrqEnd.state (c.crq-1.given.1 (sym (ap (λ (lent : Lenders). lent.queue) lent)))) in
+    let own = sym (ap g.O.WindowPort.state (c.own-1.given.1 (sym (ap (λ (lent : Lenders). lent.own) lent)))) in
+    let client = sym (ap g.R.WindowPort.state (c.client-1.given.1 (sym (ap (λ (lent : Lenders). lent.client) lent)))) in
+    let goes = c.turn-done.ensures.advances in
+    subst (λ (z : EndState × PortState × PortState). PortsGoOn g.C.CrqEnd.is_shared g.R.WindowPort.is_shared (g.C.CrqEnd.state c.args.crq.now) z.0
+    (g.O.WindowPort.state c.args.own.now) z.1 (g.R.WindowPort.state c.args.client.now) z.2) (λ i. (queue i, own i, client i))
+    (record {
+      goes = record {
+        queue_place = goes.queue_place;
+        own_place = goes.own_place;
+        client_place = goes.client_place;
+        session = goes.session;
+        opens = goes.opens;
+        taken = goes.taken;
+        put = goes.put;
+        own_grows = goes.own;
+        client_grows = goes.client;
+      };
+      values = goes.values;
+      partner = goes.partner;
+      sessions = goes.now;
+      ready = c.turn-done.new.site.ready;
+      event = c.turn-done.new.site.event;
+    })
+
+pub returns-clause-copying : goal.returns-clause-copying
+returns-clause-copying g c =
+    let server = c.args.self.now in
+    let old = stock server.disk.count server.partition server.units.items server.records server.copies.items (g.B.Blocks.state server.disk.image).blocks in
+    let new = stock c.turn-done.new.disk.count server.partition (slice_set server.units.items c.args.unit c.turn-done.new.unit) c.turn-done.new.records c.turn-done.new.site.copies.now.items
+    (g.B.Blocks.state c.turn-done.new.disk.image).blocks in
+    let lent = c.turn-done.ensures.advances.reached in
+    let own = sym (ap g.O.WindowPort.state (c.own-1.given.1 (sym (ap (λ (lent : Lenders). lent.own) lent)))) in
+    let client = sym (ap g.R.WindowPort.state (c.client-1.given.1 (sym (ap (λ (lent : Lenders). lent.client) lent)))) in
+    let goes = c.turn-done.ensures.advances in
+    subst (λ (z : PortState × PortState). CopiesGoOn g.R.WindowPort.is_shared old new (g.O.WindowPort.state c.args.own.now) z.0 (g.R.WindowPort.state c.args.client.now) z.1) (λ i. (own i, client i))
+    (record { copies = goes.copies; owner = goes.owner; named = goes.named; own_named = goes.own_named })
+
+pub returns-clause-rows : goal.returns-clause-rows
+returns-clause-rows g c =
     let server = c.args.self.now in
     let there : slice_get server.units.items c.args.unit ≡ Some c.index_mut-turned.result.now =
     slice_get_read server.units.items _ c.args.unit _ server.units.ok.0 c.requires.unit c.index_mut-turned.ensures.value in
     let reached = ap (λ (lent : Lenders). lent.queue) c.turn-done.ensures.advances.reached in
-    subst (λ (queue : EndState). ∥ AnswersItsRows (g.O.WindowPort.state c.args.own.now).place.unit (g.C.CrqEnd.state c.args.crq.now) queue server.records c.turn-done.new.records ∥₁)
-    (sym (ap g.C.CrqEnd.state (c.crq-1.given.1 (sym reached))))
-    (∥∥₁_map server.serving (λ (all : AreServing (terms_of anything server.disk.count) server.partition server.units.items server.records.history.items).
-    let is = all c.args.unit c.index_mut-turned.result.now there in
-    subst (λ (id : UnitId). AnswersItsRows id (g.C.CrqEnd.state c.args.crq.now) (g.C.CrqEnd.state c.turn-done.new.site.queue.now) server.records c.turn-done.new.records)
-    (is.id ∙ sym c.requires.named) (c.turn-done.ensures.once anything (λ news is. refl) is.serving).answers))
+    record {
+      answers = subst (λ (queue : EndState). ∥ AnswersItsRows (g.O.WindowPort.state c.args.own.now).place.unit (g.C.CrqEnd.state c.args.crq.now) queue server.records c.turn-done.new.records ∥₁)
+          (sym (ap g.C.CrqEnd.state (c.crq-1.given.1 (sym reached))))
+          (∥∥₁_map server.serving (λ (all : AreServing (terms_of anything server.disk.count) server.partition server.units.items server.records.history.items).
+          let is = all c.args.unit c.index_mut-turned.result.now there in
+          subst (λ (id : UnitId). AnswersItsRows id (g.C.CrqEnd.state c.args.crq.now) (g.C.CrqEnd.state c.turn-done.new.site.queue.now) server.records c.turn-done.new.records)
+          (is.id ∙ sym c.requires.named) (c.turn-done.ensures.once anything (λ news is. refl) is.serving).answers));
+      others = ∥∥₁_map server.serving (λ (all : AreServing (terms_of anything server.disk.count) server.partition server.units.items server.records.history.items).
+          let is = all c.args.unit c.index_mut-turned.result.now there in
+          subst (λ (id : UnitId). ServesItsRows id server.records c.turn-done.new.records) (is.id ∙ sym c.requires.named) (c.turn-done.ensures.once anything (λ news is. refl) is.serving).others);
+      disk = ∥∥₁_map server.serving (λ (all : AreServing (terms_of anything server.disk.count) server.partition server.units.items server.records.history.items).
+          let once = c.turn-done.ensures.once anything (λ news is. refl) (all c.args.unit c.index_mut-turned.result.now there).serving in
+          keeps_disk (held anything server.disk.count (g.B.Blocks.state server.disk.image).blocks) (held anything c.turn-done.new.disk.count (g.B.Blocks.state c.turn-done.new.disk.image).blocks) _ _
+          (g.B.Blocks.state server.disk.image).size server.disk.sized once.terms (g.met.B.Blocks.told server.disk.image) once.stays);
+      tells = ∥∥₁_elim server.serving (tells_prop (g.B.Blocks.state server.disk.image).blocks (g.B.Blocks.state c.turn-done.new.disk.image).blocks)
+          (λ (all : AreServing (terms_of anything server.disk.count) server.partition server.units.items server.records.history.items).
+          (c.turn-done.ensures.once anything (λ news is. refl) (all c.args.unit c.index_mut-turned.result.now there).serving).tells);
+    }
 
-pub returns-clause-rests : goal.returns-clause-rests
-returns-clause-rests g c = λ alone rests.
+pub returns-clause-says : goal.returns-clause-says
+returns-clause-says g c =
     let server = c.args.self.now in
     let there : slice_get server.units.items c.args.unit ≡ Some c.index_mut-turned.result.now =
     slice_get_read server.units.items _ c.args.unit _ server.units.ok.0 c.requires.unit c.index_mut-turned.ensures.value in
-    let is = some_at (slice_get server.units.items c.args.unit) c.index_mut-turned.result.now (λ (u : ServerUnit). IsResting u (g.C.CrqEnd.state c.args.crq.now)) there rests in
-    told_rests c.turn-done.result c.turn-done.new.unit.moved c.told.result c.told.ensures
-    (c.turn-done.ensures.rests alone (record {
-      nothing = record { waiting = is.nothing.waiting; pending = is.nothing.pending; kept = is.nothing.kept; going = is.nothing.going };
-      event = is.event;
-      emptied = is.emptied;
-    }))
+    let old = stock server.disk.count server.partition server.units.items server.records server.copies.items (g.B.Blocks.state server.disk.image).blocks in
+    let new = stock c.turn-done.new.disk.count server.partition (slice_set server.units.items c.args.unit c.turn-done.new.unit) c.turn-done.new.records c.turn-done.new.site.copies.now.items
+    (g.B.Blocks.state c.turn-done.new.disk.image).blocks in
+    let lent = c.turn-done.ensures.advances.reached in
+    let queue = sym (ap g.C.CrqEnd.state (c.crq-1.given.1 (sym (ap (λ (lent : Lenders). lent.queue) lent)))) in
+    let own = sym (ap g.O.WindowPort.state (c.own-1.given.1 (sym (ap (λ (lent : Lenders). lent.own) lent)))) in
+    let client = sym (ap g.R.WindowPort.state (c.client-1.given.1 (sym (ap (λ (lent : Lenders). lent.client) lent)))) in
+    let before = g.C.CrqEnd.state c.args.crq.now in
+    let unit = c.index_mut-turned.result.now in
+    let unit' = c.turn-done.new.unit in
+    let says = c.told.ensures in
+    subst (λ (z : EndState × PortState × PortState). SaysMoved g.C.CrqEnd.is_shared g.R.WindowPort.is_shared c.args.unit old new before z.0
+    (g.O.WindowPort.state c.args.own.now) z.1 (g.R.WindowPort.state c.args.client.now) z.2 c.told.result) (λ i. (queue i, own i, client i))
+    (record {
+      rests = λ alone rests.
+          let is = some_at (slice_get server.units.items c.args.unit) unit (λ (u : ServerUnit). IsResting u before) there rests in
+          told_rests c.turn-done.result unit'.moved c.told.result says
+          (c.turn-done.ensures.rests alone (record {
+            nothing = record { waiting = is.nothing.waiting; pending = is.nothing.pending; kept = is.nothing.kept; going = is.nothing.going };
+            event = is.event;
+            emptied = is.emptied;
+          }));
+      moved = way_moved c.told.result server.units.items c.args.unit unit unit' before _ there
+          (differs_by (AreServing (terms_of anything server.disk.count) server.partition server.units.items server.records.history.items) _ c.told.result server.serving
+          (λ (all : AreServing (terms_of anything server.disk.count) server.partition server.units.items server.records.history.items).
+          told_moved c.turn-done.result unit'.moved c.told.result says _
+          (on_ok c.turn-done.result _ _ (λ comes moved. comes_apart (record unit { moved = false }) unit' _ _ comes refl moved)
+          (c.turn-done.ensures.comes anything (all c.args.unit unit there).serving))));
+      quiet = told_quiet c.turn-done.result unit'.moved c.told.result says _ (on_ok c.turn-done.result _ _ (λ quiet moved. (quiet moved).still) c.turn-done.ensures.quiet);
+      way = way_quiet c.told.result server.units.items c.args.unit unit unit' _ _ there
+          (told_quiet c.turn-done.result unit'.moved c.told.result says _
+          (on_ok c.turn-done.result _ _ (λ quiet moved. let is = quiet moved in record { still = is.still; same = is.same }) c.turn-done.ensures.quiet));
+      agrees = agrees_turn server.units.items c.args.unit unit unit' before _ there c.turn-done.ensures.agrees;
+      waits = waits_turn c.told.result server.units.items c.args.unit unit unit' before _ there
+          (if_ready c.told.result _ _ _ (λ agreed idle. idle_ready _ _ (c.turn-done.ensures.agrees agreed) idle)
+          (told_quiet c.turn-done.result unit'.moved c.told.result says _ c.turn-done.ensures.waits));
+    })
 
-pub returns-clause-others : goal.returns-clause-others
-returns-clause-others g c =
+pub returns-clause-requests : goal.returns-clause-requests
+returns-clause-requests g c =
     let server = c.args.self.now in
     let there : slice_get server.units.items c.args.unit ≡ Some c.index_mut-turned.result.now =
     slice_get_read server.units.items _ c.args.unit _ server.units.ok.0 c.requires.unit c.index_mut-turned.ensures.value in
-    ∥∥₁_map server.serving (λ (all : AreServing (terms_of anything server.disk.count) server.partition server.units.items server.records.history.items).
-    let is = all c.args.unit c.index_mut-turned.result.now there in
-    subst (λ (id : UnitId). ServesItsRows id server.records c.turn-done.new.records) (is.id ∙ sym c.requires.named) (c.turn-done.ensures.once anything (λ news is. refl) is.serving).others)
-
-pub returns-clause-disk : goal.returns-clause-disk
-returns-clause-disk g c =
-    let server = c.args.self.now in
-    let there : slice_get server.units.items c.args.unit ≡ Some c.index_mut-turned.result.now =
-    slice_get_read server.units.items _ c.args.unit _ server.units.ok.0 c.requires.unit c.index_mut-turned.ensures.value in
-    ∥∥₁_map server.serving (λ (all : AreServing (terms_of anything server.disk.count) server.partition server.units.items server.records.history.items).
-    keeps_disk (held anything server.disk.count (g.B.Blocks.state server.disk.image).blocks) (held anything c.turn-done.new.disk.count (g.B.Blocks.state c.turn-done.new.disk.image).blocks) _ _
-    (g.B.Blocks.state server.disk.image).size server.disk.sized
-    (c.turn-done.ensures.once anything (λ news is. refl) (all c.args.unit c.index_mut-turned.result.now there).serving).terms
-    (g.met.B.Blocks.told server.disk.image)
-    (c.turn-done.ensures.once anything (λ news is. refl) (all c.args.unit c.index_mut-turned.result.now there).serving).stays)
+    let lent = c.turn-done.ensures.advances.reached in
+    let queue = sym (ap g.C.CrqEnd.state (c.crq-1.given.1 (sym (ap (λ (lent : Lenders). lent.queue) lent)))) in
+    let own = sym (ap g.O.WindowPort.state (c.own-1.given.1 (sym (ap (λ (lent : Lenders). lent.own) lent)))) in
+    let client = sym (ap g.R.WindowPort.state (c.client-1.given.1 (sym (ap (λ (lent : Lenders). lent.client) lent)))) in
+    let unit = c.index_mut-turned.result.now in
+    let unit' = c.turn-done.new.unit in
+    record {
+      intake = λ receipts has.
+          ∥∥₁_map server.serving (λ (all : AreServing (terms_of anything server.disk.count) server.partition server.units.items server.records.history.items).
+          let is = all c.args.unit unit there in
+          intake_turn server.units.items c.args.unit unit unit' _ _ _ _ _ _ _ _ _ _ _ _ there (is.id ∙ sym c.requires.named)
+          c.turn-done.ensures.intake refl refl refl refl own client queue refl receipts has);
+      lines = ∥∥₁_map server.serving (λ (all : AreServing (terms_of anything server.disk.count) server.partition server.units.items server.records.history.items).
+          let is = all c.args.unit unit there in
+          subst (λ (id : UnitId). LinesMore id (grant_of server.units.items c.args.unit) server.records.grants.items c.turn-done.new.records.grants.items) (is.id ∙ sym c.requires.named)
+          (subst (λ (o : Option ServerUnit). LinesMore unit.id (granted_by o) server.records.grants.items c.turn-done.new.records.grants.items) (sym there)
+          c.turn-done.ensures.intake.lines));
+      grants = λ granted is.
+          granting_on granted server.units.items server.records.grants.items c.turn-done.new.records.grants.items c.args.unit unit unit' there
+          c.turn-done.ensures.intake.granted c.turn-done.ensures.intake.lines is;
+      judged = λ judged has.
+          ∥∥₁_map server.serving (λ (all : AreServing (terms_of anything server.disk.count) server.partition server.units.items server.records.history.items).
+          let is = all c.args.unit unit there in
+          judged_turn server.units.items c.args.unit unit unit' _ _ server.records c.turn-done.new.records _ _ _ _ _ _ _ _ there (is.id ∙ sym c.requires.named)
+          c.turn-done.ensures.intake c.turn-done.ensures.judges refl refl refl refl own client queue refl judged has);
+      answered = λ alone judged has owes.
+          ∥∥₁_map server.serving (λ (all : AreServing (terms_of anything server.disk.count) server.partition server.units.items server.records.history.items).
+          let is = all c.args.unit unit there in
+          answered_turn g.C.CrqEnd.is_shared server.units.items c.args.unit unit unit' _ _ server.records c.turn-done.new.records _ _ _ _ _ there (is.id ∙ sym c.requires.named)
+          c.turn-done.ensures.intake c.turn-done.ensures.answers refl refl refl refl queue alone judged has owes);
+    }
 
 pub returns-clause-by_told : goal.returns-clause-by_told
 returns-clause-by_told g c = λ told tells all.
@@ -156,33 +270,6 @@ returns-clause-by_told g c = λ told tells all.
           (c.turn-done.ensures.writes told heard is.serving words (calm_from c.index_mut-turned.result.now (record c.index_mut-turned.result.now { moved = false }) (reach (g.C.CrqEnd.state c.args.crq.now) (g.R.WindowPort.state c.args.client.now) g.R.WindowPort.is_shared) _ words refl refl refl refl calm))) calm);
     }
 
-pub returns-clause-tells : goal.returns-clause-tells
-returns-clause-tells g c =
-    let server = c.args.self.now in
-    let there : slice_get server.units.items c.args.unit ≡ Some c.index_mut-turned.result.now =
-    slice_get_read server.units.items _ c.args.unit _ server.units.ok.0 c.requires.unit c.index_mut-turned.ensures.value in
-    ∥∥₁_elim server.serving (tells_prop (g.B.Blocks.state server.disk.image).blocks (g.B.Blocks.state c.turn-done.new.disk.image).blocks)
-    (λ (all : AreServing (terms_of anything server.disk.count) server.partition server.units.items server.records.history.items).
-    (c.turn-done.ensures.once anything (λ news is. refl) (all c.args.unit c.index_mut-turned.result.now there).serving).tells)
-
-pub returns-clause-count : goal.returns-clause-count
-returns-clause-count g c =
-    let server = c.args.self.now in
-    let there : slice_get server.units.items c.args.unit ≡ Some c.index_mut-turned.result.now =
-    slice_get_read server.units.items _ c.args.unit _ server.units.ok.0 c.requires.unit c.index_mut-turned.ensures.value in
-    ∥∥₁_elim server.serving (same_prop c.turn-done.new.disk.count server.disk.count)
-    (λ (all : AreServing (terms_of anything server.disk.count) server.partition server.units.items server.records.history.items).
-    ap (λ (terms : Terms). terms.size) (c.turn-done.ensures.once anything (λ news is. refl) (all c.args.unit c.index_mut-turned.result.now there).serving).terms)
-
-pub returns-clause-way : goal.returns-clause-way
-returns-clause-way g c =
-    let server = c.args.self.now in
-    let there : slice_get server.units.items c.args.unit ≡ Some c.index_mut-turned.result.now =
-    slice_get_read server.units.items _ c.args.unit _ server.units.ok.0 c.requires.unit c.index_mut-turned.ensures.value in
-    way_quiet c.told.result server.units.items c.args.unit c.index_mut-turned.result.now c.turn-done.new.unit _ _ there
-    (told_quiet c.turn-done.result c.turn-done.new.unit.moved c.told.result c.told.ensures _
-    (on_ok c.turn-done.result _ _ (λ quiet moved. let is = quiet moved in record { still = is.still; same = is.same }) c.turn-done.ensures.quiet))
-
 pub invariant_of-self : goal.invariant_of-self
 invariant_of-self g c =
     let server = c.args.self.now in
@@ -194,119 +281,6 @@ invariant_of-self g c =
           server.partition c.args.unit server.units.items c.index_mut-turned.result.now c.turn-done.new.unit _ _ _ _ there
           (c.turn-done.ensures.once anything (λ news is. refl) (all c.args.unit c.index_mut-turned.result.now there).serving) all);
     }
-
-pub returns-clause-others_stay : goal.returns-clause-others_stay
-returns-clause-others_stay g c = λ k apart. get_set_other c.args.self.now.units.items c.args.unit k c.turn-done.new.unit apart
-
-pub returns-clause-agrees : goal.returns-clause-agrees
-returns-clause-agrees g c =
-    let server = c.args.self.now in
-    let there : slice_get server.units.items c.args.unit ≡ Some c.index_mut-turned.result.now =
-    slice_get_read server.units.items _ c.args.unit _ server.units.ok.0 c.requires.unit c.index_mut-turned.ensures.value in
-    let reached = ap (λ (lent : Lenders). lent.queue) c.turn-done.ensures.advances.reached in
-    subst (λ (queue : EndState). AgreesAt server.units.items c.args.unit (g.C.CrqEnd.state c.args.crq.now) → AgreesAt (slice_set server.units.items c.args.unit c.turn-done.new.unit) c.args.unit queue)
-    (sym (ap g.C.CrqEnd.state (c.crq-1.given.1 (sym reached))))
-    (agrees_turn server.units.items c.args.unit c.index_mut-turned.result.now c.turn-done.new.unit (g.C.CrqEnd.state c.args.crq.now) (g.C.CrqEnd.state c.turn-done.new.site.queue.now) there c.turn-done.ensures.agrees)
-
-pub returns-clause-waits : goal.returns-clause-waits
-returns-clause-waits g c =
-    let server = c.args.self.now in
-    let there : slice_get server.units.items c.args.unit ≡ Some c.index_mut-turned.result.now =
-    slice_get_read server.units.items _ c.args.unit _ server.units.ok.0 c.requires.unit c.index_mut-turned.ensures.value in
-    let lent = c.turn-done.ensures.advances.reached in
-    let queue = sym (ap g.C.CrqEnd.state (c.crq-1.given.1 (sym (ap (λ (lent : Lenders). lent.queue) lent)))) in
-    let own = sym (ap g.O.WindowPort.state (c.own-1.given.1 (sym (ap (λ (lent : Lenders). lent.own) lent)))) in
-    let client = sym (ap g.R.WindowPort.state (c.client-1.given.1 (sym (ap (λ (lent : Lenders). lent.client) lent)))) in
-    waits_turn c.told.result server.units.items c.args.unit c.index_mut-turned.result.now c.turn-done.new.unit (g.C.CrqEnd.state c.args.crq.now) _ there
-    (if_ready c.told.result _ _ _ (λ agreed idle.
-    subst (λ (z : EndState × PortState × PortState). NothingReady g.C.CrqEnd.is_shared g.R.WindowPort.is_shared (g.C.CrqEnd.state c.args.crq.now) z.0
-    (g.O.WindowPort.state c.args.own.now) z.1 (g.R.WindowPort.state c.args.client.now) z.2 c.turn-done.new.unit) (λ i. (queue i, own i, client i))
-    (idle_ready _ _ (c.turn-done.ensures.agrees agreed) idle)) (told_quiet c.turn-done.result c.turn-done.new.unit.moved c.told.result c.told.ensures _ c.turn-done.ensures.waits))
-
-pub returns-clause-intake : goal.returns-clause-intake
-returns-clause-intake g c = λ receipts has.
-    let server = c.args.self.now in
-    let there : slice_get server.units.items c.args.unit ≡ Some c.index_mut-turned.result.now =
-    slice_get_read server.units.items _ c.args.unit _ server.units.ok.0 c.requires.unit c.index_mut-turned.ensures.value in
-    let lent = c.turn-done.ensures.advances.reached in
-    let queue = sym (ap g.C.CrqEnd.state (c.crq-1.given.1 (sym (ap (λ (lent : Lenders). lent.queue) lent)))) in
-    let own = sym (ap g.O.WindowPort.state (c.own-1.given.1 (sym (ap (λ (lent : Lenders). lent.own) lent)))) in
-    let client = sym (ap g.R.WindowPort.state (c.client-1.given.1 (sym (ap (λ (lent : Lenders). lent.client) lent)))) in
-    ∥∥₁_map server.serving (λ (all : AreServing (terms_of anything server.disk.count) server.partition server.units.items server.records.history.items).
-    let is = all c.args.unit c.index_mut-turned.result.now there in
-    intake_turn server.units.items c.args.unit c.index_mut-turned.result.now c.turn-done.new.unit _ _ _ _ _ _ _ _ _ _ _ _ there (is.id ∙ sym c.requires.named)
-    c.turn-done.ensures.intake refl refl refl refl own client queue refl receipts has)
-
-pub returns-clause-lines : goal.returns-clause-lines
-returns-clause-lines g c =
-    let server = c.args.self.now in
-    let there : slice_get server.units.items c.args.unit ≡ Some c.index_mut-turned.result.now =
-    slice_get_read server.units.items _ c.args.unit _ server.units.ok.0 c.requires.unit c.index_mut-turned.ensures.value in
-    ∥∥₁_map server.serving (λ (all : AreServing (terms_of anything server.disk.count) server.partition server.units.items server.records.history.items).
-    let is = all c.args.unit c.index_mut-turned.result.now there in
-    subst (λ (id : UnitId). LinesMore id (grant_of server.units.items c.args.unit) server.records.grants.items c.turn-done.new.records.grants.items) (is.id ∙ sym c.requires.named) (subst (λ (o : Option ServerUnit). LinesMore c.index_mut-turned.result.now.id (granted_by o) server.records.grants.items c.turn-done.new.records.grants.items) (sym there)
-    c.turn-done.ensures.intake.lines))
-
-pub returns-clause-grants : goal.returns-clause-grants
-returns-clause-grants g c = λ granted is.
-    let server = c.args.self.now in
-    let there : slice_get server.units.items c.args.unit ≡ Some c.index_mut-turned.result.now =
-    slice_get_read server.units.items _ c.args.unit _ server.units.ok.0 c.requires.unit c.index_mut-turned.ensures.value in
-    granting_on granted server.units.items server.records.grants.items c.turn-done.new.records.grants.items c.args.unit c.index_mut-turned.result.now c.turn-done.new.unit there
-    c.turn-done.ensures.intake.granted c.turn-done.ensures.intake.lines is
-
-pub returns-clause-judged : goal.returns-clause-judged
-returns-clause-judged g c = λ judged has.
-    let server = c.args.self.now in
-    let there : slice_get server.units.items c.args.unit ≡ Some c.index_mut-turned.result.now =
-    slice_get_read server.units.items _ c.args.unit _ server.units.ok.0 c.requires.unit c.index_mut-turned.ensures.value in
-    let lent = c.turn-done.ensures.advances.reached in
-    let queue = sym (ap g.C.CrqEnd.state (c.crq-1.given.1 (sym (ap (λ (lent : Lenders). lent.queue) lent)))) in
-    let own = sym (ap g.O.WindowPort.state (c.own-1.given.1 (sym (ap (λ (lent : Lenders). lent.own) lent)))) in
-    let client = sym (ap g.R.WindowPort.state (c.client-1.given.1 (sym (ap (λ (lent : Lenders). lent.client) lent)))) in
-    ∥∥₁_map server.serving (λ (all : AreServing (terms_of anything server.disk.count) server.partition server.units.items server.records.history.items).
-    let is = all c.args.unit c.index_mut-turned.result.now there in
-    judged_turn server.units.items c.args.unit c.index_mut-turned.result.now c.turn-done.new.unit _ _ server.records c.turn-done.new.records _ _ _ _ _ _ _ _ there (is.id ∙ sym c.requires.named)
-    c.turn-done.ensures.intake c.turn-done.ensures.judges refl refl refl refl own client queue refl judged has)
-
-pub returns-clause-answered : goal.returns-clause-answered
-returns-clause-answered g c = λ alone judged has owes.
-    let server = c.args.self.now in
-    let there : slice_get server.units.items c.args.unit ≡ Some c.index_mut-turned.result.now =
-    slice_get_read server.units.items _ c.args.unit _ server.units.ok.0 c.requires.unit c.index_mut-turned.ensures.value in
-    let lent = c.turn-done.ensures.advances.reached in
-    let queue = sym (ap g.C.CrqEnd.state (c.crq-1.given.1 (sym (ap (λ (lent : Lenders). lent.queue) lent)))) in
-    ∥∥₁_map server.serving (λ (all : AreServing (terms_of anything server.disk.count) server.partition server.units.items server.records.history.items).
-    let is = all c.args.unit c.index_mut-turned.result.now there in
-    answered_turn g.C.CrqEnd.is_shared server.units.items c.args.unit c.index_mut-turned.result.now c.turn-done.new.unit _ _ server.records c.turn-done.new.records _ _ _ _ _ there (is.id ∙ sym c.requires.named)
-    c.turn-done.ensures.intake c.turn-done.ensures.answers refl refl refl refl queue alone judged has owes)
-
-pub returns-clause-partner : goal.returns-clause-partner
-returns-clause-partner g c =
-    let reached = ap (λ (lent : Lenders). lent.queue) c.turn-done.ensures.advances.reached in
-    subst (λ (queue : EndState). g.C.CrqEnd.is_shared ≡ false → queue.counts.partner_session ≡ (g.C.CrqEnd.state c.args.crq.now).counts.partner_session)
-    (sym (ap g.C.CrqEnd.state (c.crq-1.given.1 (sym reached)))) c.turn-done.ensures.advances.partner
-
-pub returns-clause-sessions : goal.returns-clause-sessions
-returns-clause-sessions g c =
-    let reached = ap (λ (lent : Lenders). lent.queue) c.turn-done.ensures.advances.reached in
-    subst (λ (queue : EndState). g.C.CrqEnd.is_shared ≡ false → PutsNow (g.C.CrqEnd.state c.args.crq.now) queue)
-    (sym (ap g.C.CrqEnd.state (c.crq-1.given.1 (sym reached)))) c.turn-done.ensures.advances.now
-
-pub returns-clause-moved : goal.returns-clause-moved
-returns-clause-moved g c =
-    let server = c.args.self.now in
-    let there : slice_get server.units.items c.args.unit ≡ Some c.index_mut-turned.result.now =
-    slice_get_read server.units.items _ c.args.unit _ server.units.ok.0 c.requires.unit c.index_mut-turned.ensures.value in
-    let reached = ap (λ (lent : Lenders). lent.queue) c.turn-done.ensures.advances.reached in
-    subst (λ (queue : EndState). Differs c.told.result (IsStill (g.C.CrqEnd.state c.args.crq.now) queue
-    × (way_of (slice_set server.units.items c.args.unit c.turn-done.new.unit) c.args.unit ≡ way_of server.units.items c.args.unit)))
-    (sym (ap g.C.CrqEnd.state (c.crq-1.given.1 (sym reached))))
-    (way_moved c.told.result server.units.items c.args.unit c.index_mut-turned.result.now c.turn-done.new.unit (g.C.CrqEnd.state c.args.crq.now) (g.C.CrqEnd.state c.turn-done.new.site.queue.now) there
-    (differs_by (AreServing (terms_of anything server.disk.count) server.partition server.units.items server.records.history.items) _ c.told.result server.serving
-    (λ (all : AreServing (terms_of anything server.disk.count) server.partition server.units.items server.records.history.items).
-    told_moved c.turn-done.result c.turn-done.new.unit.moved c.told.result c.told.ensures _
-    (on_ok c.turn-done.result _ _ (λ comes moved. comes_apart (record c.index_mut-turned.result.now { moved = false }) c.turn-done.new.unit _ _ comes refl moved) (c.turn-done.ensures.comes anything (all c.args.unit c.index_mut-turned.result.now there).serving)))))
 
 pub returns-clause-if_ready : goal.returns-clause-if_ready
 returns-clause-if_ready g c = λ words u at calm.
