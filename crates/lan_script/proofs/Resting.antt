@@ -1,11 +1,13 @@
 -- Ports that do nothing, and from which nothing is left to take.
-use Rattle.std.proofs.Common.{◌≡◌, ℕ, true, false, IfSome, IsSome, All, List, [], ◌∷◌, Option, Some, None, Result, refl, sym, ◌∙◌, ap, subst}
+use Rattle.std.proofs.Common.{◌≡◌, ◌⊎◌, inl, inr, ◌+◌, ℕ, arith, length, length-append, true, false, IfSome, IsSome, All, List, [], ◌∷◌, Option, Some, None, Result, refl, sym, ◌∙◌, ap, subst}
 use Rattle.std.proofs.lemmas.List.Elements.{All-head, All-tail}
 use Rattle.vio_num.specs.declared.hypervisor.Moved.TheVariants.{Moved, Quiet}
 use Rattle.vio_num.specs.declared.memory.NoMemory.{NoMemory}
 use Rattle.vio_num.specs.declared.names.UnitId.{UnitId}
-use Rattle.lan_buffers.specs.Calls.{IsOpen}
-use Rattle.lan_buffers.specs.Port.{PortValue}
+use Rattle.lan_buffers.specs.Calls.{IsOpen, Reads, harvest_row}
+use Rattle.lan_buffers.specs.Port.{PortValue, last_session, now, receive_entry}
+use Rattle.lan_buffers.specs.declared.rows.DeliverRow.{DeliverRow}
+use Rattle.lan_buffers.specs.declared.rows.HarvestRow.{HarvestRow}
 use Rattle.lan_buffers.specs.declared.answers.Harvest.{Harvest}
 use Rattle.lan_buffers.specs.declared.answers.Harvest.TheVariants as harvests
 use Rattle.lan_switch.specs.Calls.{Harvests, Reserves}
@@ -13,13 +15,13 @@ use Rattle.lan_switch.specs.Switch.{AtPort, port_of, same_unit}
 use Rattle.lan_switch.specs.declared.station.Station.{Station}
 use Rattle.lan_script.specs.PortReplay.{IsOn}
 use Rattle.lan_script.specs.Replayed.{replay_at, settings_of}
-use Rattle.lan_script.specs.Resting.{FindsNone, HasReadAll, IsAllTaken, IsNoHarvest, OnNothing, SamePorts, shown_of}
+use Rattle.lan_script.specs.Resting.{FindsNone, HasReadAll, IsAllTaken, IsNoHarvest, OnNothing, ReadsAs, SamePorts, entries_read_at, reads_found, entries_read, reads_told, shown_of}
 use Rattle.lan_script.specs.Invariant.{IsLan}
 use Rattle.lan_script.specs.Seats.{IsSizedSeat, seat_at}
 use Rattle.lan_script.specs.Units.{IsOpenAt, LanValue}
 use Rattle.lan_script.specs.declared.seat.PortSeat.{PortSeat}
 use Rattle.lan_script.specs.declared.taking.Taken.{Taken}
-use Rattle.lan_script.specs.declared.taking.Taken.TheVariants.{Nothing}
+use Rattle.lan_script.specs.declared.taking.Taken.TheVariants as found
 use Rattle.lan_script.proofs.Placing.{by_bool, one_unit, same_some}
 use Rattle.lan_script.proofs.Replaying.{at_beside, at_now}
 
@@ -81,7 +83,7 @@ no_harvest (harvests.Nothing number high) before after none h =
     (h.rest, λ opened. sym h.nothing.number_is ∙ h.nothing.all_read)
 
 pub found_none : (lan now old : LanValue) (unit : UnitId) (ss : List Station) (answer : Harvest) (taken : Taken) → lan ≡ now
-    → AtPort lan.stations unit ss (Harvests answer) → SamePorts old now → (taken ≡ Nothing → IsNoHarvest answer)
+    → AtPort lan.stations unit ss (Harvests answer) → SamePorts old now → (taken ≡ found.Nothing → IsNoHarvest answer)
     → OnNothing unit taken old (record lan { stations = ss })
 found_none lan now old unit ss answer taken same h before none is = record {
   still = λ v. left v ∙ before v;
@@ -130,3 +132,56 @@ on_open lan unit on = by (port_of lan.stations unit) on
     by : (o : Option PortValue) → IsSome (settings_of o) → IfSome o IsOpen
     by (Some port) is = is
     by None is = absurd (cc (is))
+
+-- ---- what a look has read
+
+reads_shown : (o : Option PortValue) → entries_read (shown_of o) ≡ entries_read o
+reads_shown (Some port) = refl
+reads_shown None = refl
+
+-- no port that did nothing read an entry
+pub reads_still : (old new : LanValue) (unit : UnitId) → SamePorts old new → entries_read_at new unit ≡ entries_read_at old unit
+reads_still old new unit same =
+    sym (reads_shown (port_of new.stations unit)) ∙ ap entries_read (same unit) ∙ reads_shown (port_of old.stations unit)
+
+one_more : (before after : PortValue) (number : ℕ) (row : DeliverRow) → Reads before after number row
+    → (length after.harvests ≡ length before.harvests + 1) × (after.unit ≡ before.unit)
+one_more before after number row h = (
+  omega (
+    arith,
+    ap (λ (l : List HarvestRow). length l) h.read,
+    length-append before.harvests
+        (harvest_row (last_session before) (receive_entry before.slots number (now before).posts row) ∷ []),
+  ),
+  ap (λ (p : PortValue). p.unit) h.rest,
+)
+
+reads_by : (answer : Harvest) (before after : PortValue) → Harvests answer before after
+    → (length after.harvests ≡ length before.harvests + reads_told answer) × (after.unit ≡ before.unit)
+reads_by (harvests.Frame number len correlator) before after h = one_more before after number h.frame.row h.frame.reads
+reads_by (harvests.Blank number correlator) before after h = one_more before after number h.blank.row h.blank.reads
+reads_by (harvests.Nothing number high) before after h =
+    (omega (arith, ap (λ (p : PortValue). length p.harvests) h.rest), ap (λ (p : PortValue). p.unit) h.rest)
+
+-- a look reads as many entries as it says
+pub found_reads : (lan now old : LanValue) (unit : UnitId) (ss : List Station) (answer : Harvest) (taken : Taken) → lan ≡ now
+    → AtPort lan.stations unit ss (Harvests answer) → SamePorts old now → reads_found taken ≡ reads_told answer
+    → ReadsAs unit taken old (record lan { stations = ss })
+found_reads lan now old unit ss answer taken same h before is =
+    omega (
+      arith,
+      ap entries_read (at_now lan.stations unit ss (Harvests answer) h read.1),
+      read.0,
+      is,
+      ap entries_read h.was,
+      ap (λ (l : LanValue). entries_read_at l unit) same,
+      reads_still old now unit before,
+    )
+  where
+    read : (length h.after.harvests ≡ length h.before.harvests + reads_told answer) × (h.after.unit ≡ h.before.unit)
+    read = reads_by answer h.before h.after h.done
+
+-- a frame and a blank buffer are an entry each
+pub reads_one : (taken : Taken) → (taken ≡ found.Frame) ⊎ (taken ≡ found.Blank) → reads_found taken ≡ 1
+reads_one taken (inl is) = ap reads_found is
+reads_one taken (inr is) = ap reads_found is

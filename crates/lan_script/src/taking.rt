@@ -6,7 +6,7 @@ ghost use Rattle.lan_script.specs.LineSays.{TellsNoFrame};
 ghost use Rattle.lan_script.specs.PortCounts.{CountsOn, CountsStep, TakesSome, counts};
 ghost use Rattle.lan_script.specs.Taking.{TakesUpTo, harvested_on, taken_on};
 ghost use Rattle.lan_script.specs.Replayed.{SameReplays};
-ghost use Rattle.lan_script.specs.Resting.{IsNoHarvest, OnNothing, OnQuiet};
+ghost use Rattle.lan_script.specs.Resting.{IsNoHarvest, OnMoved, OnNothing, OnQuiet, ReadsAs, reads_found, reads_told};
 ghost use Rattle.lan_script.specs.Seats.{TellsOfPort, seat_at};
 
 use crate::lan::Lan;
@@ -75,6 +75,7 @@ impl Lan {
         ensures counts { OnOk result (TakesSome unit self.old self.new) }
         ensures replays { OnOk result (SameReplays self.old self.new) }
         ensures nothing { IfOk result (λ moved. OnQuiet unit moved self.old self.new) }
+        ensures moved { IfOk result (λ moved. OnMoved unit moved self.old self.new) }
         ensures places { self.new.places ≡ self.old.places }
     {
         let mut moved = Moved::Quiet;
@@ -94,6 +95,7 @@ impl Lan {
         ensures frames { self.new.frames ≡ self.old.frames }
         ensures replays { OnOk result (SameReplays self.old self.new) }
         ensures nothing { IfOk result (λ taken. OnNothing unit taken self.old self.new) }
+        ensures reads { IfOk result (λ taken. ReadsAs unit taken self.old self.new) }
         ensures places { self.new.places ≡ self.old.places }
         ensures counts { IfOk result (λ taken.
             CountsOn unit (counts 0 0) (taken_on taken) self.old self.new) }
@@ -110,6 +112,7 @@ impl Lan {
 fn kind_of(harvest: Harvest) -> Taken
     ensures found { taken_on result ≡ harvested_on harvest }
     ensures nothing { result ≡ Taken.Nothing → IsNoHarvest harvest }
+    ensures reads { reads_found result ≡ reads_told harvest }
     ensures short { IfFrame harvest (λ number len correlator. len < 2 ^ 32) }
 {
     match harvest {

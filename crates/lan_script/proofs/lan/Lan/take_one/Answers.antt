@@ -7,7 +7,7 @@ use Rattle.lan_script.proofs.Lans.{lan_at, port_there}
 use Rattle.lan_script.proofs.CountsKept.{takes_one}
 use Rattle.lan_script.proofs.ReplayedCalls.{harvests_stay}
 use Rattle.lan_script.proofs.Replaying.{port_replays, stays_all}
-use Rattle.lan_script.proofs.Resting.{found_none}
+use Rattle.lan_script.proofs.Resting.{found_none, found_reads}
 use Rattle.lan_script.proofs.lan.Lan.take_one.Goals as goal
 
 pub harvest-requires-clause-port : goal.harvest-requires-clause-port
@@ -36,3 +36,8 @@ pub returns-clause-nothing : goal.returns-clause-nothing
 returns-clause-nothing c =
     found_none _ c.make_room.new.self c.args.self.now c.args.unit c.harvest.new.self c.harvest.result c.kind_of.result c.self.view_is c.harvest.ensures
     c.make_room.ensures.still c.kind_of.ensures.nothing
+
+pub returns-clause-reads : goal.returns-clause-reads
+returns-clause-reads c =
+    found_reads _ c.make_room.new.self c.args.self.now c.args.unit c.harvest.new.self c.harvest.result c.kind_of.result c.self.view_is c.harvest.ensures
+    c.make_room.ensures.still c.kind_of.ensures.reads

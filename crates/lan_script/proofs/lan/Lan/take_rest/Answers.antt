@@ -1,7 +1,7 @@
 use Rattle.std.proofs.Common.{◌∙◌, arith}
 use Rattle.lan_script.proofs.CountsKept.{takes_on}
 use Rattle.lan_script.proofs.Replaying.{same_on}
-use Rattle.lan_script.proofs.Resting.{none_behind, not_quiet}
+use Rattle.lan_script.proofs.Resting.{none_behind, not_quiet, reads_one}
 use Rattle.lan_script.proofs.lan.Lan.take_rest.Goals as goal
 
 pub loop-entry-preserved : goal.loop-entry-preserved
@@ -13,6 +13,8 @@ loop-entry-preserved c = record {
   taken = takes_on c.args.unit c.in_ok-take_one.field-0 c.args.self.now c.loop-entry.self c.take_one.new.self c.loop-entry.invariant.taken
       c.in_ok-take_one.ensures.counts;
   still = λ is. absurd (not_quiet is);
+  grown = omega (arith, c.loop-entry.invariant.grown, c.in_ok-take_one.ensures.reads, reads_one _ c.in-Frame.is);
+  more = λ is. omega (arith, c.loop-entry.invariant.grown, c.in_ok-take_one.ensures.reads, reads_one _ c.in-Frame.is);
   first = λ is. absurd (not_quiet is);
 }
 

@@ -1,8 +1,8 @@
-use Rattle.std.proofs.Common.{◌≡◌}
-use Rattle.vio_num.specs.declared.hypervisor.Moved.TheVariants.{Quiet}
+use Rattle.std.proofs.Common.{◌≡◌, ◌<◌, ◌≤◌}
+use Rattle.vio_num.specs.declared.hypervisor.Moved.TheVariants.{Moved, Quiet}
 use Rattle.lan_script.specs.PortCounts.{TakesSome}
 use Rattle.lan_script.specs.Replayed.{SameReplays}
-use Rattle.lan_script.specs.Resting.{SamePorts}
+use Rattle.lan_script.specs.Resting.{SamePorts, entries_read_at}
 use Rattle.lan_script.proofs.lan.Lan.take_rest.Given as goal
 
 abbrev pub invariant-loop-entry : goal.invariant-loop-entry
@@ -13,5 +13,7 @@ invariant-loop-entry l = record {
   places : l.self.places ≡ l.fn.self.places;
   taken : TakesSome l.unit l.fn.self l.self;
   still : l.moved ≡ Quiet → SamePorts l.fn.self l.self;
+  grown : entries_read_at l.fn.self l.unit ≤ entries_read_at l.self l.unit;
+  more : l.moved ≡ Moved → entries_read_at l.fn.self l.unit < entries_read_at l.self l.unit;
   first : l.moved ≡ Quiet → l._entry ≡ 0;
 }
