@@ -201,38 +201,41 @@ credited_waits old new script progress line seat did found sits are step is = re
         (ap (taken_at unit (taken_in script.progress)) found ∙ (ap (λ b. cond b (taken_in script.progress) 0) e ∙ (sym (ap (λ b. cond b (taken_in progress) 0) e) ∙ sym (ap (taken_at unit (taken_in progress)) found))))
         (is.agrees less unit k at))
 
--- the current line ended
-pub credited_ends : (old new : List Pair) (script ended : Script) (line : Line) (row : LogRow) (seat taken' : ℕ)
-    → slice_get script.lines.now script.at ≡ Some line → slice_get script.seats.items line.unit ≡ Some (places.Client seat)
-    → AreSeats script.partition script.seats.items old → length script.logs.items ≡ script.at
-    → StepsSeat seat line.verb (taken_in script.progress) taken' old new (Ok (steps.Ends row.outcome))
+-- the lines of a unit that ended before, and one that ended so
+abbrev own_before : Script → ℕ → List Ended
+own_before script unit = ended_by unit script.lines.now script.logs.items
+
+abbrev ended_so : Line → LogRow → Ended
+ended_so line row = record { verb = line.verb; outcome = row.outcome }
+
+-- with this one behind them, if it is the unit's
+abbrev ended_behind : Script → Line → LogRow → ℕ → List Ended
+ended_behind script line row unit = cond (line.unit == unit) (own_before script unit ++ ended_so line row ∷ []) (own_before script unit)
+
+-- the current line ended: with it the records keep the credits, and the clients agree with them
+ended_as : (new : List Pair) (script ended : Script) (line : Line) (row : LogRow)
+    → slice_get script.lines.now script.at ≡ Some line → length script.logs.items ≡ script.at
     → ended.lines ≡ script.lines → ended.seats ≡ script.seats → ended.logs.items ≡ script.logs.items ++ row ∷ [] → taken_in ended.progress ≡ 0
-    → IsCredited old script → IsCredited new ended
-credited_ends old new script ended line row seat taken' found sits are many step lines seats logs none is = record {
-  law = λ unit. subst (KeepsCredit None) (sym (records unit)) (law unit (here_or line.unit unit));
+    → ((unit : ℕ) → KeepsCredit None (ended_behind script line row unit))
+    → ((unit k : ℕ) → slice_get script.seats.items unit ≡ Some (places.Client k) → IfSome (driver_at new k) (λ driver. Agrees 0 (credit_after None (ended_behind script line row unit)) driver.client))
+    → ((unit : ℕ) → slice_get script.seats.items unit ≡ Some places.Port → credit_after None (ended_behind script line row unit) ≡ None)
+    → IsCredited new ended
+ended_as new script ended line row found many lines seats logs none law agree port = record {
+  law = λ unit. subst (KeepsCredit None) (sym (records unit)) (law unit);
   fresh = fresh_none (slice_get ended.lines.now ended.at);
   agrees = λ less unit k at.
       subst (λ n. IfSome (driver_at new k) (λ driver. Agrees n (credit_after None (ended_by unit ended.lines.now ended.logs.items)) driver.client)) (sym (none_taken unit (slice_get ended.lines.now ended.at)))
       (subst (λ es. IfSome (driver_at new k) (λ driver. Agrees 0 (credit_after None es) driver.client)) (sym (records unit))
-      (by unit k (subst (λ ss. slice_get ss.items unit ≡ Some (places.Client k)) seats at) (here_or line.unit unit)));
+      (agree unit k (subst (λ ss. slice_get ss.items unit ≡ Some (places.Client k)) seats at)));
   ports = λ unit at.
       let here : slice_get script.seats.items unit ≡ Some places.Port = subst (λ ss. slice_get ss.items unit ≡ Some places.Port) seats at in
-      ap (credit_after None) (records unit) ∙ port unit here (here_or line.unit unit);
+      ap (credit_after None) (records unit) ∙ port unit here;
 }
   where
-    within : script.at < length script.lines.now
-    within = slice_get_within script.lines.now script.at line found
-
     there : slice_get script.lines.now (length script.logs.items) ≡ Some line
     there = ap (λ n. slice_get script.lines.now n) many ∙ found
 
-    e : Ended
-    e = record { verb = line.verb; outcome = row.outcome }
-
-    before : ℕ → List Ended
-    before unit = ended_by unit script.lines.now script.logs.items
-
-    records : (unit : ℕ) → ended_by unit ended.lines.now ended.logs.items ≡ cond (line.unit == unit) (before unit ++ e ∷ []) (before unit)
+    records : (unit : ℕ) → ended_by unit ended.lines.now ended.logs.items ≡ ended_behind script line row unit
     records unit = ap (λ ls. ended_by unit ls.now ended.logs.items) lines ∙ (ap (ended_by unit script.lines.now) logs ∙ ended_more unit script.lines.now script.logs.items line row there)
 
     fresh_none : (o : Option Line) → IfSome o (λ l. IsFresh l.verb (taken_in ended.progress))
@@ -246,6 +249,25 @@ credited_ends old new script ended line row seat taken' found sits are many step
         at : (b : Bool) → cond b (taken_in ended.progress) 0 ≡ 0
         at true = none
         at false = refl
+
+-- it is one of a client
+pub credited_ends : (old new : List Pair) (script ended : Script) (line : Line) (row : LogRow) (seat taken' : ℕ)
+    → slice_get script.lines.now script.at ≡ Some line → slice_get script.seats.items line.unit ≡ Some (places.Client seat)
+    → AreSeats script.partition script.seats.items old → length script.logs.items ≡ script.at
+    → StepsSeat seat line.verb (taken_in script.progress) taken' old new (Ok (steps.Ends row.outcome))
+    → ended.lines ≡ script.lines → ended.seats ≡ script.seats → ended.logs.items ≡ script.logs.items ++ row ∷ [] → taken_in ended.progress ≡ 0
+    → IsCredited old script → IsCredited new ended
+credited_ends old new script ended line row seat taken' found sits are many step lines seats logs none is = ended_as new script ended line row found many lines seats logs none
+    (λ unit. law unit (here_or line.unit unit)) (λ unit k at. by unit k at (here_or line.unit unit)) (λ unit at. port unit at (here_or line.unit unit))
+  where
+    within : script.at < length script.lines.now
+    within = slice_get_within script.lines.now script.at line found
+
+    e : Ended
+    e = ended_so line row
+
+    before : ℕ → List Ended
+    before unit = own_before script unit
 
     two : Two (driver_at old seat) (driver_at new seat) (λ a b. StepsAgreed line.verb (taken_in script.progress) taken' a.client b.client (Ok (steps.Ends row.outcome)))
     two = two_of (driver_at old seat) (driver_at new seat) _ _ step.credit (seat_there script.partition line.unit seat script.seats.items old are sits)
@@ -437,44 +459,17 @@ pub port_ends : (old new : List Pair) (script ended : Script) (line : Line) (row
     → length script.logs.items ≡ script.at → SameDrivers old new → grants row.outcome ≡ false
     → ended.lines ≡ script.lines → ended.seats ≡ script.seats → ended.logs.items ≡ script.logs.items ++ row ∷ [] → taken_in ended.progress ≡ 0
     → IsCredited old script → IsCredited new ended
-port_ends old new script ended line row found sits many same plain lines seats logs none is = record {
-  law = λ unit. subst (KeepsCredit None) (sym (records unit)) (law unit (here_or line.unit unit));
-  fresh = fresh_none (slice_get ended.lines.now ended.at);
-  agrees = λ less unit k at.
-      subst (λ n. IfSome (driver_at new k) (λ driver. Agrees n (credit_after None (ended_by unit ended.lines.now ended.logs.items)) driver.client)) (sym (none_taken unit (slice_get ended.lines.now ended.at)))
-      (subst (λ es. IfSome (driver_at new k) (λ driver. Agrees 0 (credit_after None es) driver.client)) (sym (records unit))
-      (by unit k (subst (λ ss. slice_get ss.items unit ≡ Some (places.Client k)) seats at) (here_or line.unit unit)));
-  ports = λ unit at.
-      let here : slice_get script.seats.items unit ≡ Some places.Port = subst (λ ss. slice_get ss.items unit ≡ Some places.Port) seats at in
-      ap (credit_after None) (records unit) ∙ port unit here (here_or line.unit unit);
-}
+port_ends old new script ended line row found sits many same plain lines seats logs none is = ended_as new script ended line row found many lines seats logs none
+    (λ unit. law unit (here_or line.unit unit)) (λ unit k at. by unit k at (here_or line.unit unit)) (λ unit at. port unit at (here_or line.unit unit))
   where
-    within : script.at < length script.lines.now
-    within = slice_get_within script.lines.now script.at line found
-
-    there : slice_get script.lines.now (length script.logs.items) ≡ Some line
-    there = ap (λ n. slice_get script.lines.now n) many ∙ found
-
     e : Ended
-    e = record { verb = line.verb; outcome = row.outcome }
+    e = ended_so line row
 
     before : ℕ → List Ended
-    before unit = ended_by unit script.lines.now script.logs.items
+    before unit = own_before script unit
 
-    records : (unit : ℕ) → ended_by unit ended.lines.now ended.logs.items ≡ cond (line.unit == unit) (before unit ++ e ∷ []) (before unit)
-    records unit = ap (λ ls. ended_by unit ls.now ended.logs.items) lines ∙ (ap (ended_by unit script.lines.now) logs ∙ ended_more unit script.lines.now script.logs.items line row there)
-
-    fresh_none : (o : Option Line) → IfSome o (λ l. IsFresh l.verb (taken_in ended.progress))
-    fresh_none None = tt
-    fresh_none (Some l) = λ take. none
-
-    none_taken : (unit : ℕ) (o : Option Line) → taken_at unit (taken_in ended.progress) o ≡ 0
-    none_taken unit None = refl
-    none_taken unit (Some l) = at (l.unit == unit)
-      where
-        at : (b : Bool) → cond b (taken_in ended.progress) 0 ≡ 0
-        at true = none
-        at false = refl
+    within : script.at < length script.lines.now
+    within = slice_get_within script.lines.now script.at line found
 
     own : credit_after None (before line.unit) ≡ None
     own = is.ports line.unit sits

@@ -1,3 +1,9 @@
+pub mod ActsAsking
+pub mod ActsLines
+pub mod ActsPairs
+pub mod ActsScripts
+pub mod ActsSeats
+pub mod ActsTaking
 pub mod Agreeing
 pub mod Among
 pub mod Announcing
@@ -74,6 +80,7 @@ pub mod FurtherKept
 pub mod FurtherShown
 pub mod GivenAnswers
 pub mod Giving
+pub mod Going
 pub mod Gone
 pub mod GivesAll
 pub mod HeardTurns

@@ -1,7 +1,8 @@
 -- A plain client's server unit is ready for its turn: it hears all that is to come.
 use Rattle.std.proofs.Common.{◌≡◌, ◌≢◌, ◌∙◌, ◌⊎◌, inl, inr, ℕ, suc, ◌+◌, ◌<◌, ◌≤◌, ◌++◌, All, Bool, true, false, cond, List, [], ◌∷◌, Option, Some, None, drop, length, length-append, length-drop, map, refl, sym, ap, subst, arith}
+use Rattle.std.specs.Prelude.{⊤}
 use Rattle.std.proofs.lemmas.List.{length-map}
-use Rattle.std.proofs.lemmas.List.Elements.{All-cons, All-head, All-nil, All-tail, All-weaker}
+use Rattle.std.proofs.lemmas.List.Elements.{All-append, All-cons, All-head, All-nil, All-tail, All-weaker}
 use Rattle.vio_num.specs.declared.entry.Entry.{Entry}
 use Rattle.crq_ring.specs.Sessions.{of_session}
 use Rattle.crq_ring.specs.declared.rows.PipeRow.{PipeRow}
@@ -12,7 +13,7 @@ use Rattle.crq_session.specs.declared.handshake.Handshake.TheVariants.{Down, Up}
 use Rattle.srp_iu.specs.declared.unit.Iu.{Iu}
 use Rattle.tce_window.specs.PortState.{PortState}
 use Rattle.tce_window.specs.declared.answers.Right.TheVariants.{Write}
-use Rattle.block_server.specs.Talk.{ComeInOrder, FitOneTurn, HasRoomFor, IsListening, IsTurnReady, MayAsk, MayWriteAnswer, MayWriteOver, Word, reach, replies, talk_of, to_come}
+use Rattle.block_server.specs.Talk.{ComeInOrder, FitOneTurn, HasRoomFor, HearsAll, HearsOne, IsListening, IsTurnReady, MayAsk, MayWriteAnswer, Talk, Word, reach, replies, talk_of, to_come}
 use Rattle.block_server.specs.Talk.Word.{asks, begins, gone}
 use Rattle.block_server.specs.declared.request.Request.{Request}
 use Rattle.vscsi_client.specs.State.{ClientState}
@@ -91,17 +92,25 @@ replies_few (asks address bytes iu ∷ words) = omega (arith, replies_few words)
 
 -- ---- what is pending
 
+-- an answer may be written over each request of a list, and over that which a word asks
+abbrev AreMay : PortState → List Request → Type 0
+AreMay window requests = All (λ request. MayWriteAnswer window request.address) requests
+
+abbrev MayWriteOver : PortState → Word → Type 0
+MayWriteOver window (asks address bytes iu) = MayWriteAnswer window address
+MayWriteOver window word = ⊤
+
 pub slot_may : (window : PortState) (address slot : ℕ) → IsOwnWindow window → slot ≤ SLOTS → address ≡ slot_address slot → MayWriteAnswer window address
 slot_may window address slot usable within is = subst (MayWriteAnswer window) (sym is) (slot_usable window usable Write slot within)
 
 stale_may : (window : PortState) → IsOwnWindow window → (requests : List Request) → All (λ request. (slot : ℕ) × (slot ≤ SLOTS) × (request.address ≡ slot_address slot)) requests
-    → All (λ request. MayWriteAnswer window request.address) requests
+    → AreMay window requests
 stale_may window usable requests are =
     All-weaker (λ (request : Request). (slot : ℕ) × (slot ≤ SLOTS) × (request.address ≡ slot_address slot)) (λ (request : Request). MayWriteAnswer window request.address)
     (λ request is. slot_may window request.address is.0 usable is.1 is.2) requests are
 
 pending_may : (window : PortState) → IsOwnWindow window → (requests : List Request) (more : List Ask) → ArePending requests more → All IsAsk more
-    → All (λ request. MayWriteAnswer window request.address) requests
+    → AreMay window requests
 pending_may window usable [] [] are each = All-nil (λ (request : Request). MayWriteAnswer window request.address)
 pending_may window usable [] (ask ∷ more) are each = absurd are
 pending_may window usable (request ∷ requests) [] are each = absurd are
@@ -121,7 +130,7 @@ all_rest P (x ∷ xs) ys all = all_rest P xs ys (All-tail P x (xs ++ ys) all)
 
 -- WHAT IS PENDING
 record Pends (window : PortState) (requests : List Request) : Type 0 where
-  may : All (λ request. MayWriteAnswer window request.address) requests
+  may : AreMay window requests
   few : length requests ≤ 202
 
 pends : (granted : ℕ) (at : Between) (words : List Word) → IsCalm granted at words → InPhase granted at words → Pends at.window at.unit.pending.items
@@ -162,6 +171,20 @@ words_may granted at words calm (inr (inr (asked, answers, talk))) =
     subst (All (MayWriteOver at.window)) (sym talk.coming)
     (may_over at.window calm.usable asked.coming
     (all_rest IsAsk asked.pending asked.coming (all_rest IsAsk asked.answered (asked.pending ++ asked.coming) talk.each)))
+
+-- and so over all that is pending once it was heard
+may_one : (window : PortState) (a b : Talk) (number : ℕ) (word : Word) → HearsOne a number word b → MayWriteOver window word → AreMay window a.pending → AreMay window b.pending
+may_one window a b number begins is may all = subst (λ (t : Talk). AreMay window t.pending) (sym is) all
+may_one window a b number gone is may all = subst (AreMay window) (sym is.loses.pending) (All-nil (λ request. MayWriteAnswer window request.address))
+may_one window a b number (asks address bytes iu) is may all =
+    subst (AreMay window) (sym is.pending) (All-append (λ request. MayWriteAnswer window request.address) a.pending (is.request ∷ []) all
+    (All-cons (λ request. MayWriteAnswer window request.address) is.request [] (subst (MayWriteAnswer window) (sym is.is.address_is) may) (All-nil (λ request. MayWriteAnswer window request.address))))
+
+may_all : (window : PortState) (words : List Word) (a b : Talk) (number : ℕ) → HearsAll a number words b → All (MayWriteOver window) words → AreMay window a.pending → AreMay window b.pending
+may_all window [] a b number is may all = subst (λ (t : Talk). AreMay window t.pending) (sym is) all
+may_all window (word ∷ words) a b number is may all =
+    may_all window words is.0 b (number + 1) is.2 (All-tail (MayWriteOver window) word words may)
+    (may_one window a is.0 number word is.1 (All-head (MayWriteOver window) word words may) all)
 
 -- ---- what is to come comes where it may
 
@@ -244,8 +267,9 @@ talk_ready granted at words talks =
       event = calm.event;
       few = record { slots = omega (arith, few, calm.server_slots); pending = omega (arith, few, pending.few) };
       stage = calm.stage;
-      pending = pending.may;
-      asked = words_may granted at words calm talks.phase;
+      next = λ talk request rest heard is asked.
+          All-head (λ request. MayWriteAnswer at.window request.address) request rest (subst (AreMay at.window) is
+          (may_all at.window words (talk_of at.unit) talk (length (taken_now at.server)) heard (words_may granted at words calm talks.phase) pending.may));
       slots = room_for at.server at.own (length (replies words) + 1) calm.ends
           (λ there. omega (arith, own_few granted at words talks.phase there, calm.own_slots, few, replies_few words));
     }

@@ -12,28 +12,20 @@ use Rattle.rdma_copy.specs.declared.copy.CopyRecord.{CopyRecord}
 use Rattle.vio_num.specs.declared.history.Grant.{Grant}
 use Rattle.vio_num.specs.declared.history.Served.{Served}
 use Rattle.vcpu_run.specs.Answered.{AreAnswered}
-use Rattle.vcpu_run.specs.AnswersSent.{AnswersAreGiven, AnswersAreSent}
+use Rattle.vcpu_run.specs.AnswersSent.{AnswersAreSent}
 use Rattle.vcpu_run.specs.Agreed.{AreCredited}
-use Rattle.vcpu_run.specs.ClientStrokes.{ClientsAreLogged}
-use Rattle.vcpu_run.specs.CallsShown.{CallsAreSaid}
 use Rattle.vcpu_run.specs.Lines.{IsOver}
-use Rattle.vcpu_run.specs.Intake.{EntriesAreFetched}
-use Rattle.vcpu_run.specs.LoginsSent.{LoginsAreAnswered, LoginsAreSent}
+use Rattle.vcpu_run.specs.GatheredLaw.{LinesAreLawful, LoginsAreLawful, PartsAreLawful, RestIsLawful}
 use Rattle.vcpu_run.specs.Machines.{IsOfPlan}
 use Rattle.lan_script.specs.Units.{LanValue}
 use Rattle.vcpu_run.specs.PlainClients.{PlainClientsAreScripted}
-use Rattle.vcpu_run.specs.PortWords.{PortsAreTold}
 use Rattle.vcpu_run.specs.PortsRest.{PortsEnd}
 use Rattle.vcpu_run.specs.Received.{AreAtRest}
 use Rattle.vcpu_run.specs.Refusals.{RefusalsAreTold}
-use Rattle.vcpu_run.specs.Requests.{RequestsAreServed}
 use Rattle.vcpu_run.specs.ScriptTold.{AreTold}
-use Rattle.vcpu_run.specs.Settled.{ClientsAreSettled, ServersAreSettled}
-use Rattle.vcpu_run.specs.RunLaw.{CopiesAreLawful, CreditsAreKept, KeepsLawOf, PortsKeepLaw, QueuesAreLawful, RecordsAreOfLines, KeepsLaw}
+use Rattle.vcpu_run.specs.RunLaw.{KeepsLawOf, KeepsLaw}
 use Rattle.boot_text.specs.declared.plan.Plan.{Plan}
 use Rattle.block_server.specs.Receipts.{GrantsMany}
-use Rattle.vcpu_run.specs.RowsCopied.{LinesAreExplained, RowsAreCopied}
-use Rattle.vcpu_run.specs.WholeLogins.{LastAreHandedOver}
 
 -- a law of traces is kept over each plan that this is the machine of
 abbrev pub Keeps : (List Partition → Trace → Type 0) → List Pair → List Script → List PortSeat → Trace → Type 0
@@ -43,55 +35,48 @@ Keeps law pairs scripts ports trace = (partitions : List Partition) → IsOfPlan
 abbrev pub KeepsOnce : Type 0 → (List Partition → Trace → Type 0) → List Pair → List Script → List PortSeat → Trace → Type 0
 KeepsOnce once law pairs scripts ports trace = (partitions : List Partition) → IsOfPlan partitions pairs scripts ports → once → law partitions trace
 
-pub law_told : {E : Type 0} (r : Result Trace E) (o : Option Trace) (pairs : List Pair) (scripts : List Script) (ports : List PortSeat) (history : List Served) (copies_made : List CopyRecord) (lines : List Grant) → o ≡ result_ok r
-    → IfOk r IsInOrder → IfOk r (Keeps QueuesAreLawful pairs scripts ports) → IfOk r (Keeps CopiesAreLawful pairs scripts ports)
-    → IfOk r (KeepsOnce (All IsOver scripts) RecordsAreOfLines pairs scripts ports) → All IsOver scripts
-    → IfOk r (KeepsOnce (AreCredited (copies_at copies_made pairs) pairs scripts) CreditsAreKept pairs scripts ports) → AreCredited (copies_at copies_made pairs) pairs scripts
-    → IfOk r (KeepsOnce (All IsOver scripts) (λ partitions trace. AreCredited (copies_at copies_made pairs) pairs scripts → ClientsAreLogged partitions trace) pairs scripts ports)
-    → IfOk r (KeepsOnce (All IsOver scripts) (λ partitions trace. AreTold pairs scripts → AreAtRest copies_made lines history pairs scripts → RefusalsAreTold partitions trace) pairs scripts ports) → AreTold pairs scripts
-    → IfOk r (KeepsOnce (AreAnswered history pairs) AnswersAreSent pairs scripts ports) → AreAnswered history pairs
-    → IfOk r (Keeps PortsKeepLaw pairs scripts ports) → (lan : LanValue)
-    → IfOk r (KeepsOnce (All IsOver scripts) (λ partitions trace. PortsEnd lan scripts → PortsAreTold partitions trace) pairs scripts ports) → PortsEnd lan scripts
-    → IfOk r (KeepsOnce (AreAtRest copies_made lines history pairs scripts) ServersAreSettled pairs scripts ports)
-    → IfOk r (KeepsOnce (AreAtRest copies_made lines history pairs scripts) ClientsAreSettled pairs scripts ports)
-    → IfOk r (KeepsOnce (AreAtRest copies_made lines history pairs scripts) EntriesAreFetched pairs scripts ports)
-    → IfOk r (KeepsOnce (AreAtRest copies_made lines history pairs scripts) RequestsAreServed pairs scripts ports)
-    → IfOk r (KeepsOnce (AreAtRest copies_made lines history pairs scripts) AnswersAreGiven pairs scripts ports)
-    → IfOk r (KeepsOnce (AreAnswered history pairs) (λ partitions trace. AreAtRest copies_made lines history pairs scripts → LastAreHandedOver partitions trace) pairs scripts ports)
-    → IfOk r (KeepsOnce (AreAtRest copies_made lines history pairs scripts) RowsAreCopied pairs scripts ports)
-    → IfOk r (KeepsOnce (AreAtRest copies_made lines history pairs scripts) LinesAreExplained pairs scripts ports)
-    → IfOk r (KeepsOnce (AreAnswered history pairs) (λ partitions trace. AreAtRest copies_made lines history pairs scripts → LoginsAreSent partitions trace) pairs scripts ports)
-    → IfOk r (KeepsOnce (AreAnswered history pairs) (λ partitions trace. AreAtRest copies_made lines history pairs scripts → LoginsAreAnswered partitions trace) pairs scripts ports)
-    → IfOk r (KeepsOnce (PortsEnd lan scripts) (λ partitions trace. AreCredited (copies_at copies_made pairs) pairs scripts → CallsAreSaid partitions trace) pairs scripts ports)
-    → AreAtRest copies_made lines history pairs scripts
-    → IfSome o (Keeps KeepsLawOf pairs scripts ports)
-law_told (Ok trace) o pairs scripts ports history copies_made lines e order queues copies records over credits are logged refusals said answers answered keeps lan words tells settled handed intake requests given whole copied explained logins dealt called rests =
-    subst (λ (o : Option Trace). IfSome o (Keeps KeepsLawOf pairs scripts ports)) (sym e)
-    (λ partitions of_plan. record {
+pub law_told : {E : Type 0} (r : Result Trace E) (o : Option Trace) (pairs : List Pair) (scripts : List Script) (lan : LanValue) (history : List Served) (copies : List CopyRecord) (lines : List Grant) → o ≡ result_ok r
+    → All IsOver scripts → AreCredited (copies_at copies pairs) pairs scripts → AreTold pairs scripts → AreAnswered history pairs → PortsEnd lan scripts
+    → AreAtRest copies lines history pairs scripts
+    → IfOk r IsInOrder → IfOk r (Keeps (PartsAreLawful copies pairs) pairs scripts lan.seats)
+    → IfOk r (Keeps (LinesAreLawful copies pairs scripts lan) pairs scripts lan.seats)
+    → IfOk r (KeepsOnce (All IsOver scripts) (λ partitions trace. AreTold pairs scripts → AreAtRest copies lines history pairs scripts → RefusalsAreTold partitions trace) pairs scripts lan.seats)
+    → IfOk r (KeepsOnce (AreAnswered history pairs) AnswersAreSent pairs scripts lan.seats)
+    → IfOk r (KeepsOnce (AreAtRest copies lines history pairs scripts) RestIsLawful pairs scripts lan.seats)
+    → IfOk r (KeepsOnce (AreAnswered history pairs) (λ partitions trace. AreAtRest copies lines history pairs scripts → LoginsAreLawful partitions trace) pairs scripts lan.seats)
+    → IfSome o (Keeps KeepsLawOf pairs scripts lan.seats)
+law_told (Ok trace) o pairs scripts lan history copies lines e over are said answered ends rests order lawful told refusals answers settled logins =
+    subst (λ (o : Option Trace). IfSome o (Keeps KeepsLawOf pairs scripts lan.seats)) (sym e)
+    (λ partitions of_plan.
+    let parts = lawful partitions of_plan in
+    let by_lines = told partitions of_plan in
+    let rest = settled partitions of_plan rests in
+    let login = logins partitions of_plan answered rests in
+    record {
       order = order;
-      queues = queues partitions of_plan;
-      copies = copies partitions of_plan;
-      records = records partitions of_plan over;
-      called = called partitions of_plan tells are;
-      credits = credits partitions of_plan are;
-      logged = logged partitions of_plan over are;
+      queues = parts.queues;
+      copies = parts.copies;
+      records = by_lines.records over;
+      called = by_lines.called ends are;
+      credits = by_lines.credits are;
+      logged = by_lines.logged over are;
       refusals = refusals partitions of_plan over said rests;
       answers = answers partitions of_plan answered;
-      ports = keeps partitions of_plan;
-      told = words partitions of_plan over tells;
-      settled = settled partitions of_plan rests;
-      handed = handed partitions of_plan rests;
-      intake = intake partitions of_plan rests;
-      requests = requests partitions of_plan rests;
-      given = given partitions of_plan rests;
-      whole = whole partitions of_plan answered rests;
-      copied = copied partitions of_plan rests;
-      explained = explained partitions of_plan rests;
-      logins = logins partitions of_plan answered rests;
-      dealt = dealt partitions of_plan answered rests;
+      ports = parts.ports;
+      told = by_lines.told over ends;
+      settled = rest.settled;
+      handed = rest.handed;
+      intake = rest.intake;
+      requests = rest.requests;
+      given = rest.given;
+      whole = login.whole;
+      copied = rest.copied;
+      explained = rest.explained;
+      logins = login.logins;
+      dealt = login.dealt;
     })
-law_told (Err error) o pairs scripts ports history copies_made lines e order queues copies records over credits are logged refusals said answers answered keeps lan words tells settled handed intake requests given whole copied explained logins dealt called rests =
-    subst (λ (o : Option Trace). IfSome o (Keeps KeepsLawOf pairs scripts ports)) (sym e) tt
+law_told (Err error) o pairs scripts lan history copies lines e over are said answered ends rests order lawful told refusals answers settled logins =
+    subst (λ (o : Option Trace). IfSome o (Keeps KeepsLawOf pairs scripts lan.seats)) (sym e) tt
 
 -- the rows that were served
 pub served_told : {E : Type 0} (r : Result Trace E) (o : Option Trace) (rows : List Served) → o ≡ result_ok r → IfOk r (λ told. told.serves ≡ rows)

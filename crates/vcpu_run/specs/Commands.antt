@@ -1,5 +1,5 @@
 -- The command that a line sends.
-use Rattle.std.specs.Prelude.{◌≡◌, ℕ, ◌-◌, ◌*◌, ◌++◌, List, ◌∷◌, Option, None, length, replicate}
+use Rattle.std.specs.Prelude.{◌≡◌, ℕ, ◌-◌, ◌*◌, ◌++◌, Bool, true, false, List, ◌∷◌, Option, None, length, replicate}
 use Rattle.byteorder.specs.Endian.{big_bytes}
 use Rattle.boot_text.specs.declared.verb.Verb.{Verb}
 use Rattle.boot_text.specs.declared.verb.Verb.TheVariants as verbs
@@ -29,6 +29,17 @@ IsOpOf (verbs.Command cdb) op = HasNoData op
 IsOpOf (verbs.CommandIn cdb at len pieces table) op = HasData dirs.In at len pieces table op
 IsOpOf (verbs.CommandOut cdb at len pieces table) op = HasData dirs.Out at len pieces table op
 IsOpOf _ op = ⊥
+
+-- whether a line reads or writes blocks, and whether it gives the descriptor block of a command with data
+abbrev pub moves_blocks : Verb → Bool
+moves_blocks (verbs.Read lba blocks at pieces table) = true
+moves_blocks (verbs.Write lba blocks at pieces table) = true
+moves_blocks _ = false
+
+abbrev pub gives_data : Verb → Bool
+gives_data (verbs.CommandIn cdb at len pieces table) = true
+gives_data (verbs.CommandOut cdb at len pieces table) = true
+gives_data _ = false
 
 -- a command descriptor block of ten bytes for blocks from a logical block address on, with zeros behind it up to 16 bytes (SBC,
 -- "READ (10) command", "WRITE (10) command")

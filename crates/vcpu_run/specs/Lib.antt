@@ -1,3 +1,5 @@
+pub mod Acts
+pub mod ActsAt
 pub mod Agreed
 pub mod Among
 pub mod Announces
@@ -32,6 +34,7 @@ pub mod FewEvents
 pub mod Freed
 pub mod Freeing
 pub mod Gathered
+pub mod GatheredLaw
 pub mod Gone
 pub mod Grants
 pub mod Heard
@@ -83,6 +86,7 @@ pub mod Refusals
 pub mod RegionThen
 pub mod Replay
 pub mod Requests
+pub mod Rounds
 pub mod RowsCopied
 pub mod RunLaw
 pub mod ScriptLogs
@@ -90,6 +94,7 @@ pub mod ScriptTold
 pub mod Scripts
 pub mod Sendings
 pub mod SentOrder
+pub mod Served
 pub mod Sessions
 pub mod Settled
 pub mod Shown

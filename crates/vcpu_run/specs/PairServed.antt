@@ -1,15 +1,17 @@
 -- What a turn of a server unit leaves: at its pair, by what the windows told, and at each other pair.
-use Rattle.std.specs.Prelude.{◌≡◌, ℕ, Bool, true, false, slice_get}
+use Rattle.std.specs.Prelude.{◌≡◌, ℕ, Bool, true, false, List, slice_get}
 use Rattle.vio_num.specs.declared.names.UnitId.{UnitId}
 use Rattle.crq_session.specs.PlainState.{side_of}
+use Rattle.rdma_copy.specs.declared.copy.CopyRecord.{CopyRecord}
 use Rattle.block_server.specs.Causes.{Told}
 use Rattle.block_server.specs.DiskLaw.{KeepsDiskBy}
 use Rattle.block_server.specs.TurnTold.{Stock}
 use Rattle.block_server.specs.Units.{AreInOrder}
 use Rattle.vcpu_run.specs.Answered.{IsAnswered}
+use Rattle.vcpu_run.specs.ClientStrokes.{KeepsOwn}
 use Rattle.vcpu_run.specs.DropsShown.{KeepsFull}
 use Rattle.vcpu_run.specs.Freed.{FreesNoneAt}
-use Rattle.vcpu_run.specs.Heard.{AllGoBy, UnitGoesBy}
+use Rattle.vcpu_run.specs.Heard.{AllGoBy, ShowsMore, UnitGoesBy}
 use Rattle.vcpu_run.specs.Links.{IsLinked}
 use Rattle.vcpu_run.specs.Machines.{server_id}
 use Rattle.vcpu_run.specs.Named.{HasWindow}
@@ -17,6 +19,7 @@ use Rattle.vcpu_run.specs.Pairs.{IsPair}
 use Rattle.vcpu_run.specs.PlainPairs.{SparesUnit, books_of}
 use Rattle.vcpu_run.specs.Received.{IsReceived}
 use Rattle.vcpu_run.specs.ShutShown.{StaysServed}
+use Rattle.vcpu_run.specs.ValuesPut.{SameValues}
 use Rattle.vcpu_run.specs.declared.pair.Pair.{Pair}
 
 -- At the link between both: the turn does of the client's side nothing but to put, and puts nothing into the server unit's own queue.
@@ -34,6 +37,21 @@ pub record KeepsClient (before after : Pair) : Type 0 where
   pub full : KeepsFull before after
   -- No session of it is undone, and it is registered only where it was, or in a later session.
   pub served : StaysServed before.link after.link
+
+-- What it leaves of the pair, but for the server unit's side of the link.
+pub record LeavesClient (copies copies' : List CopyRecord) (before after : Pair) : Type 0 where
+  -- More copies were made, and both windows have what they had.
+  pub shows : ShowsMore copies copies' before after
+  -- No entry of the client's window has other values, and no stroke in it is laid in the client's name.
+  pub values : SameValues before after
+  pub owner : KeepsOwn before after
+  pub client : KeepsClient before after
+
+-- What was served at the pair of unit k: the responses in its client's queue are those of the unit's rows, and each entry that it took has
+-- its receipt and its fate.
+pub record IsServedAt (now : Stock) (k : ℕ) (pair : Pair) : Type 0 where
+  pub answered : IsAnswered now.records.history.items pair
+  pub received : IsReceived now.units now.copies now.records.grants.items now.records.history.items k pair
 
 -- Server unit k, of which this was told, and its pair: each row still has its cause on the disk, all is in order, and so is the unit's own.
 pub record PairGoesBy (told : Told → Bool) (k : ℕ) (old new : Stock) (before after : Pair) : Type 0 where

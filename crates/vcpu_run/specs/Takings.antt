@@ -95,6 +95,11 @@ pub record Notes (tag : ℕ) (response : Response) (old new : List AnswerRow) : 
   pub tag_is : row.tag ≡ tag
   pub canonical : Canon row.answer (units.Rsp response)
 
+-- it was noted as one taken in this session
+pub record NotesIn (session tag : ℕ) (response : Response) (old new : List AnswerRow) : Type 0 where
+  pub noted : Notes tag response old new
+  pub session_is : noted.row.session ≡ session
+
 -- what a line took so far: no more than it says, and nothing where it takes none
 abbrev pub IsTakenUpTo : Verb → (taken : ℕ) → Type 0
 IsTakenUpTo (verbs.Take count) taken = taken ≤ count

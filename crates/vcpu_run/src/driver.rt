@@ -3,7 +3,7 @@ ghost use Rattle.std.specs.Prelude.{◌≡◌, [], IfOk, OnOk, OnErr};
 ghost use Rattle.srp_iu.specs.Response.{FitsRsp};
 ghost use Rattle.vscsi_client.specs.State.{new_client};
 ghost use Rattle.vscsi_client.specs.Turned.{unlinked};
-ghost use Rattle.vcpu_run.specs.Takings.{Notes};
+ghost use Rattle.vcpu_run.specs.Takings.{NotesIn};
 
 use srp_iu::{Iu, Rsp, write_iu};
 use std::alloc::Global;
@@ -49,7 +49,8 @@ impl Driver {
         requires { FitsRsp rsp }
         ensures unit { self.new.unit ≡ self.old.unit }
         ensures client { self.new.client ≡ self.old.client }
-        ensures notes { OnOk result (Notes tag rsp self.old.answers.items self.new.answers.items) }
+        ensures notes { OnOk result (NotesIn session tag rsp
+            self.old.answers.items self.new.answers.items) }
         ensures stays { OnErr result (self.new.answers.items ≡ self.old.answers.items) }
     {
         let bytes = write_iu(&Iu::Rsp(rsp));

@@ -6,32 +6,19 @@ ghost use Rattle.vcpu_run.specs.Gathered.{logs_of, sessions_at, answer_by, answe
 ghost use Rattle.block_server.specs.declared.unit.Unit.{Unit};
 ghost use Rattle.boot_text.specs.declared.plan.Partition.{Partition};
 ghost use Rattle.vio_trace.specs.Form.{IsInOrder};
-ghost use Rattle.vcpu_run.specs.Agreed.{AreCredited};
-ghost use Rattle.vcpu_run.specs.CopiesCounted.{copies_at};
-ghost use Rattle.vcpu_run.specs.ClientStrokes.{ClientsAreLogged};
-ghost use Rattle.vcpu_run.specs.Caused.{IsShownAll};
 ghost use Rattle.vcpu_run.specs.Answered.{AreAnswered};
-ghost use Rattle.vcpu_run.specs.AnswersSent.{AnswersAreGiven, AnswersAreSent};
-ghost use Rattle.vcpu_run.specs.CallsShown.{CallsAreSaid};
+ghost use Rattle.vcpu_run.specs.AnswersSent.{AnswersAreSent};
+ghost use Rattle.vcpu_run.specs.GatheredLaw.{LinesAreLawful, LoginsAreLawful, PartsAreLawful, RestIsLawful};
 ghost use Rattle.vcpu_run.specs.Lines.{IsOver};
-ghost use Rattle.vcpu_run.specs.LoginsSent.{LoginsAreAnswered, LoginsAreSent};
 ghost use Rattle.vcpu_run.specs.Machines.{AreScripts, IsOfPlan};
-ghost use Rattle.vcpu_run.specs.Intake.{EntriesAreFetched};
 ghost use Rattle.vcpu_run.specs.Pairs.{AreOfOneHome};
 ghost use Rattle.vcpu_run.specs.PlainClients.{PlainClientsAreScripted};
 ghost use Rattle.vcpu_run.specs.PlainPairs.{books_of};
 ghost use Rattle.vcpu_run.specs.PlainRuns.{ArePlain};
-ghost use Rattle.vcpu_run.specs.PortWords.{PortsAreTold};
-ghost use Rattle.vcpu_run.specs.PortsRest.{PortsEnd};
 ghost use Rattle.vcpu_run.specs.Received.{AreAtRest};
 ghost use Rattle.vcpu_run.specs.Refusals.{RefusalsAreTold};
-ghost use Rattle.vcpu_run.specs.Requests.{RequestsAreServed};
-ghost use Rattle.vcpu_run.specs.RowsCopied.{LinesAreExplained, RowsAreCopied};
 ghost use Rattle.vcpu_run.specs.ScriptTold.{AreTold};
 ghost use Rattle.vcpu_run.specs.Units.{seats_of};
-ghost use Rattle.vcpu_run.specs.Settled.{ClientsAreSettled, ServersAreSettled};
-ghost use Rattle.vcpu_run.specs.WholeLogins.{LastAreHandedOver};
-ghost use Rattle.vcpu_run.specs.RunLaw.{CopiesAreLawful, CreditsAreKept, PortsKeepLaw, QueuesAreLawful, RecordsAreOfLines};
 
 use crate::copying::put_copies;
 use crate::driver::Driver;
@@ -66,29 +53,12 @@ pub(crate) fn gather(
     ensures order { IfOk result IsInOrder }
     ensures serves { IfOk result (λ trace. trace.serves ≡ history.items) }
     ensures grants { IfOk result (λ trace. trace.grants ≡ grants.items) }
-    ensures queues { IfOk result (λ trace. (partitions : List Partition) →
+    ensures lawful { IfOk result (λ trace. (partitions : List Partition) →
         IsOfPlan partitions pairs.items scripts.entry.items lan.seats →
-        QueuesAreLawful partitions trace) }
-    ensures copies { IfOk result (λ trace. (partitions : List Partition) →
+        PartsAreLawful copies.items pairs.items partitions trace) }
+    ensures lines { IfOk result (λ trace. (partitions : List Partition) →
         IsOfPlan partitions pairs.items scripts.entry.items lan.seats →
-        CopiesAreLawful partitions trace) }
-    ensures records { IfOk result (λ trace. (partitions : List Partition) →
-        IsOfPlan partitions pairs.items scripts.entry.items lan.seats →
-        All IsOver scripts.entry.items → RecordsAreOfLines partitions trace) }
-    ensures called { IfOk result (λ trace. (partitions : List Partition) →
-        IsOfPlan partitions pairs.items scripts.entry.items lan.seats →
-        PortsEnd lan scripts.entry.items →
-        AreCredited (copies_at copies.items pairs.items) pairs.items scripts.entry.items →
-        CallsAreSaid partitions trace) }
-    ensures credits { IfOk result (λ trace. (partitions : List Partition) →
-        IsOfPlan partitions pairs.items scripts.entry.items lan.seats →
-        AreCredited (copies_at copies.items pairs.items) pairs.items scripts.entry.items →
-        CreditsAreKept partitions trace) }
-    ensures logged { IfOk result (λ trace. (partitions : List Partition) →
-        IsOfPlan partitions pairs.items scripts.entry.items lan.seats →
-        All IsOver scripts.entry.items →
-        AreCredited (copies_at copies.items pairs.items) pairs.items scripts.entry.items →
-        ClientsAreLogged partitions trace) }
+        LinesAreLawful copies.items pairs.items scripts.entry.items lan partitions trace) }
     ensures refusals { IfOk result (λ trace. (partitions : List Partition) →
         IsOfPlan partitions pairs.items scripts.entry.items lan.seats →
         All IsOver scripts.entry.items → AreTold pairs.items scripts.entry.items →
@@ -97,59 +67,15 @@ pub(crate) fn gather(
     ensures answers { IfOk result (λ trace. (partitions : List Partition) →
         IsOfPlan partitions pairs.items scripts.entry.items lan.seats →
         AreAnswered history.items pairs.items → AnswersAreSent partitions trace) }
-    ensures ports { IfOk result (λ trace. (partitions : List Partition) →
-        IsOfPlan partitions pairs.items scripts.entry.items lan.seats →
-        PortsKeepLaw partitions trace) }
-    ensures told { IfOk result (λ trace. (partitions : List Partition) →
-        IsOfPlan partitions pairs.items scripts.entry.items lan.seats →
-        All IsOver scripts.entry.items → PortsEnd lan scripts.entry.items →
-        PortsAreTold partitions trace) }
-    ensures settled { IfOk result (λ trace. (partitions : List Partition) →
+    ensures rests { IfOk result (λ trace. (partitions : List Partition) →
         IsOfPlan partitions pairs.items scripts.entry.items lan.seats →
         AreAtRest copies.items grants.items history.items pairs.items scripts.entry.items →
-        ServersAreSettled partitions trace) }
-    ensures handed { IfOk result (λ trace. (partitions : List Partition) →
-        IsOfPlan partitions pairs.items scripts.entry.items lan.seats →
-        AreAtRest copies.items grants.items history.items pairs.items scripts.entry.items →
-        ClientsAreSettled partitions trace) }
-    ensures intake { IfOk result (λ trace. (partitions : List Partition) →
-        IsOfPlan partitions pairs.items scripts.entry.items lan.seats →
-        AreAtRest copies.items grants.items history.items pairs.items scripts.entry.items →
-        EntriesAreFetched partitions trace) }
-    ensures requests { IfOk result (λ trace. (partitions : List Partition) →
-        IsOfPlan partitions pairs.items scripts.entry.items lan.seats →
-        AreAtRest copies.items grants.items history.items pairs.items scripts.entry.items →
-        RequestsAreServed partitions trace) }
-    ensures given { IfOk result (λ trace. (partitions : List Partition) →
-        IsOfPlan partitions pairs.items scripts.entry.items lan.seats →
-        AreAtRest copies.items grants.items history.items pairs.items scripts.entry.items →
-        AnswersAreGiven partitions trace) }
-    ensures whole { IfOk result (λ trace. (partitions : List Partition) →
-        IsOfPlan partitions pairs.items scripts.entry.items lan.seats →
-        AreAnswered history.items pairs.items →
-        AreAtRest copies.items grants.items history.items pairs.items scripts.entry.items →
-        LastAreHandedOver partitions trace) }
-    ensures copied { IfOk result (λ trace. (partitions : List Partition) →
-        IsOfPlan partitions pairs.items scripts.entry.items lan.seats →
-        AreAtRest copies.items grants.items history.items pairs.items scripts.entry.items →
-        RowsAreCopied partitions trace) }
-    ensures explained { IfOk result (λ trace. (partitions : List Partition) →
-        IsOfPlan partitions pairs.items scripts.entry.items lan.seats →
-        AreAtRest copies.items grants.items history.items pairs.items scripts.entry.items →
-        LinesAreExplained partitions trace) }
+        RestIsLawful partitions trace) }
     ensures logins { IfOk result (λ trace. (partitions : List Partition) →
         IsOfPlan partitions pairs.items scripts.entry.items lan.seats →
         AreAnswered history.items pairs.items →
         AreAtRest copies.items grants.items history.items pairs.items scripts.entry.items →
-        LoginsAreSent partitions trace) }
-    ensures dealt { IfOk result (λ trace. (partitions : List Partition) →
-        IsOfPlan partitions pairs.items scripts.entry.items lan.seats →
-        AreAnswered history.items pairs.items →
-        AreAtRest copies.items grants.items history.items pairs.items scripts.entry.items →
-        LoginsAreAnswered partitions trace) }
-    ensures shown { IfOk result (λ trace. (partitions : List Partition) →
-        IsOfPlan partitions pairs.items scripts.entry.items lan.seats →
-        IsShownAll partitions trace copies.items pairs.items) }
+        LoginsAreLawful partitions trace) }
     ensures plainly { IfOk result (λ trace. (partitions : List Partition) →
         IsOfPlan partitions pairs.items scripts.entry.items lan.seats →
         AreTold pairs.items scripts.entry.items →

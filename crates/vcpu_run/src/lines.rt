@@ -8,6 +8,7 @@ ghost use Rattle.vscsi_client.specs.Transferred.{FitRows};
 ghost use Rattle.vscsi_client.specs.Units.{FitsOp};
 ghost use Rattle.boot_text.specs.declared.verb.Verb.{Verb as VerbValue};
 ghost use Rattle.boot_text.specs.declared.verb.Verb.TheVariants as verbs;
+ghost use Rattle.vcpu_run.specs.Acts.{ActsFor, LogsInOnce, LogsOutOnce, ReadsData, ResetsOnce, SubmitsOnce, TakesForLine, TasksOnce, acting};
 ghost use Rattle.vcpu_run.specs.ClientMoments.{RegionStepped};
 ghost use Rattle.vcpu_run.specs.ClientSlots.{HoldsSlots};
 ghost use Rattle.vcpu_run.specs.Credited.{StepsAgreed, taken_in, uses_credit};
@@ -136,6 +137,9 @@ impl Driver {
         ensures plainly { C.is_shared ≡ false → O.is_shared ≡ false → LogsInPlainly
             (own_of self.old (C.state crq.old.end) (O.state own.old))
             (own_of self.new (C.state crq.new.end) (O.state own.new)) result }
+        ensures acts { IfOk result (LogsInOnce line
+            (acting self.old C.is_shared (C.state crq.old.end) O.is_shared (O.state own.old))
+            (acting self.new C.is_shared (C.state crq.new.end) O.is_shared (O.state own.new))) }
     {
         let turn = self.client.login_turn(crq, own, line)?;
         Ok(turned(turn, crq.moved()))
@@ -186,6 +190,9 @@ impl Driver {
             StepsPlainly verbs.Reset progress.old progress.new
             (own_of self.old (C.state crq.old.end) (O.state own.old))
             (own_of self.new (C.state crq.new.end) (O.state own.new)) result }
+        ensures acts { IfOk result (ResetsOnce line progress.old progress.new
+            (acting self.old C.is_shared (C.state crq.old.end) O.is_shared (O.state own.old))
+            (acting self.new C.is_shared (C.state crq.new.end) O.is_shared (O.state own.new))) }
     {
         if *progress == Progress::Freed {
             return self.login(crq, own, line);
@@ -223,6 +230,9 @@ impl Driver {
         ensures plainly { O.is_shared ≡ false → (end : EndState) (p : ProgressValue) →
             StepsPlainly (verbs.Data tag) p p (own_of self.old end (O.state own.old))
             (own_of self.new end (O.state own.new)) result }
+        ensures acts { (shared : Bool) (end : EndState) → IfOk result (ReadsData tag
+            (acting self.old shared end O.is_shared (O.state own.old))
+            (acting self.new shared end O.is_shared (O.state own.new))) }
     {
         match self.client.data_of(own, tag) {
             Ok(bytes) => Ok(Step::Ends(Outcome::Data {
@@ -278,6 +288,9 @@ impl Driver {
             (verb : VerbValue) (p : ProgressValue) → IsOpOf verb op.now → StepsPlainly verb p p
             (own_of self.old (C.state crq.old.end) (O.state own.old))
             (own_of self.new (C.state crq.new.end) (O.state own.new)) result }
+        ensures acts { IfOk result (SubmitsOnce line op.now
+            (acting self.old C.is_shared (C.state crq.old.end) O.is_shared (O.state own.old))
+            (acting self.new C.is_shared (C.state crq.new.end) O.is_shared (O.state own.new))) }
     {
         sent(self.client.submit(crq, own, op, line))
     }
@@ -319,6 +332,9 @@ impl Driver {
             (p : ProgressValue) → StepsPlainly (verbs.Task function tag) p p
             (own_of self.old (C.state crq.old.end) (O.state own.old))
             (own_of self.new (C.state crq.new.end) (O.state own.new)) result }
+        ensures acts { IfOk result (TasksOnce line function tag
+            (acting self.old C.is_shared (C.state crq.old.end) O.is_shared (O.state own.old))
+            (acting self.new C.is_shared (C.state crq.new.end) O.is_shared (O.state own.new))) }
     {
         sent(self.client.task(crq, own, function, tag, line))
     }
@@ -357,6 +373,9 @@ impl Driver {
             (p : ProgressValue) → StepsPlainly verbs.Logout p p
             (own_of self.old (C.state crq.old.end) (O.state own.old))
             (own_of self.new (C.state crq.new.end) (O.state own.new)) result }
+        ensures acts { IfOk result (LogsOutOnce line
+            (acting self.old C.is_shared (C.state crq.old.end) O.is_shared (O.state own.old))
+            (acting self.new C.is_shared (C.state crq.new.end) O.is_shared (O.state own.new))) }
     {
         sent(self.client.logout(crq, own, line))
     }
@@ -391,6 +410,10 @@ impl Driver {
             StepsPlainly (verbs.Take count) progress.old progress.new
             (own_of self.old (C.state crq.old.end) (O.state own.old))
             (own_of self.new (C.state crq.new.end) (O.state own.new)) result }
+        ensures acts { IfOk result (TakesForLine count
+            (taken_in progress.old) (taken_in progress.new)
+            (acting self.old C.is_shared (C.state crq.old.end) O.is_shared (O.state own.old))
+            (acting self.new C.is_shared (C.state crq.new.end) O.is_shared (O.state own.new))) }
     {
         let mut taken = progress.taken();
         let step = self.take(crq, own, count, &mut taken)?;
@@ -453,6 +476,9 @@ impl Driver {
             StepsPlainly line.now.verb progress.old progress.new
             (own_of self.old (C.state crq.old.end) (O.state own.old))
             (own_of self.new (C.state crq.new.end) (O.state own.new)) result }
+        ensures acts { IfOk result (ActsFor line.now.number line.now.verb progress.old progress.new
+            (acting self.old C.is_shared (C.state crq.old.end) O.is_shared (O.state own.old))
+            (acting self.new C.is_shared (C.state crq.new.end) O.is_shared (O.state own.new))) }
     {
         let mark = u64::from(line.number);
         if let Some(op) = op_of(&line.verb) {

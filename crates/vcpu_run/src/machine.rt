@@ -10,10 +10,7 @@ ghost use Rattle.vcpu_run.specs.CopiesCounted.{copies_at};
 ghost use Rattle.vcpu_run.specs.Caused.{IsShownAll, KeepsCaused, LeadsCaused, RowsAreInForm};
 ghost use Rattle.vcpu_run.specs.Answered.{AreAnswered};
 ghost use Rattle.vcpu_run.specs.Grants.{TellsGrants};
-ghost use Rattle.vcpu_run.specs.Heard.{AreHeard};
 ghost use Rattle.vcpu_run.specs.Lines.{IsOver};
-ghost use Rattle.vcpu_run.specs.Holding.{KeepQueues};
-ghost use Rattle.vcpu_run.specs.Links.{AreLinked};
 ghost use Rattle.vcpu_run.specs.Machines.{AreScripts, IsMachine, IsOfPlan};
 ghost use Rattle.vcpu_run.specs.OnDisk.{IsServed, LastsInRows, LeadsOn};
 ghost use Rattle.vcpu_run.specs.Pairs.{AreOfOneHome};
@@ -22,9 +19,10 @@ ghost use Rattle.vcpu_run.specs.PlainPairs.{books_of};
 ghost use Rattle.vcpu_run.specs.PlainRuns.{ArePlain};
 ghost use Rattle.vcpu_run.specs.Ports.{ports_of};
 ghost use Rattle.vcpu_run.specs.PortSteps.{AreFresh};
-ghost use Rattle.vcpu_run.specs.PortWords.{PortsTell};
 ghost use Rattle.vcpu_run.specs.PortsRest.{PortsEnd};
-ghost use Rattle.vcpu_run.specs.Received.{AreAtRest, AreReceived};
+ghost use Rattle.vcpu_run.specs.Received.{AreAtRest};
+ghost use Rattle.vcpu_run.specs.Rounds.{IsUnderWay, parts_at};
+ghost use Rattle.vcpu_run.specs.Served.{books_in};
 ghost use Rattle.vcpu_run.specs.RunLaw.{KeepsLaw, KeepsLawOf};
 ghost use Rattle.vcpu_run.specs.ScriptTold.{AreTold};
 
@@ -75,30 +73,14 @@ impl<'p, Di: Blocks> Machine<'p, Di> {
             machine.lan.seats) }
         ensures of_plan { IfOk result (λ machine. IsOfPlan plan.now.partitions
             machine.pairs.items machine.scripts.items machine.lan.seats) }
-        ensures credited { IfOk result (λ machine.
-            AreCredited (copies_at machine.server.copies.items machine.pairs.items)
-            machine.pairs.items machine.scripts.items) }
-        ensures said { IfOk result (λ machine. AreTold machine.pairs.items machine.scripts.items) }
-        ensures told { IfOk result (λ machine. PortsTell machine.lan machine.scripts.items) }
-        ensures answered { IfOk result (λ machine. AreAnswered [] machine.pairs.items) }
-        ensures received { IfOk result (λ machine. AreReceived machine.server.units.items
-            machine.server.copies.items machine.server.records.grants.items
-            machine.server.records.history.items machine.pairs.items) }
-        ensures heard { IfOk result (λ machine.
-            AreHeard machine.server.disk.count machine.server.partition
-            machine.server.units.items machine.server.records
-            machine.server.copies.items machine.pairs.items) }
+        ensures ready { IfOk result (λ machine. IsUnderWay (parts_at machine.server
+            machine.pairs.items machine.scripts.items machine.lan)) }
         ensures grants { IfOk result (λ machine. GrantEach plan.now.grant
             machine.server.units.items machine.server.records.grants.items) }
         ensures none { IfOk result (λ machine. machine.server.records.history.items ≡ []) }
-        ensures linked { IfOk result (λ machine.
-            AreLinked machine.server.units.items machine.pairs.items) }
-        ensures unfreed { IfOk result (λ machine.
-            KeepQueues machine.pairs.items machine.scripts.items) }
         ensures plainly { IfOk result (λ machine.
-            ArePlain plan.now.grant machine.server.partition
-            (books_of machine.server.units.items machine.server.records.grants.items
-            machine.server.records.history.items) machine.pairs.items machine.scripts.items) }
+            ArePlain plan.now.grant machine.server.partition (books_in machine.server)
+            machine.pairs.items machine.scripts.items) }
     {
         let partitions = plan.partitions.as_slice();
         let home = home_of(partitions);
@@ -133,19 +115,8 @@ impl<'p, Di: Blocks> Machine<'p, Di> {
     pub fn settle(self) -> Settled<Di>
         requires machine { IsMachine self.server.partition (vec_len self.server.units)
             self.server.copies.items self.pairs.items self.scripts.items self.lan.seats }
-        requires credited { AreCredited (copies_at self.server.copies.items self.pairs.items)
-            self.pairs.items self.scripts.items }
-        requires said { AreTold self.pairs.items self.scripts.items }
-        requires told { PortsTell self.lan self.scripts.items }
-        requires answered { AreAnswered self.server.records.history.items self.pairs.items }
-        requires received { AreReceived self.server.units.items self.server.copies.items
-            self.server.records.grants.items self.server.records.history.items
-            self.pairs.items }
-        requires heard { AreHeard self.server.disk.count self.server.partition
-            self.server.units.items self.server.records
-            self.server.copies.items self.pairs.items }
-        requires linked { AreLinked self.server.units.items self.pairs.items }
-        requires unfreed { KeepQueues self.pairs.items self.scripts.items }
+        requires ready { IsUnderWay (parts_at self.server self.pairs.items
+            self.scripts.items self.lan) }
         ensures law { IfSome result.trace (λ trace. (partitions : List Partition) →
             IsOfPlan partitions self.entry.pairs.items self.entry.scripts.items
             self.entry.lan.seats → KeepsLawOf partitions trace) }
@@ -154,9 +125,7 @@ impl<'p, Di: Blocks> Machine<'p, Di> {
         ensures plainly { IfSome result.trace (λ trace. (partitions : List Partition) →
             IsOfPlan partitions self.entry.pairs.items self.entry.scripts.items
             self.entry.lan.seats → (granted : ℕ) → ArePlain granted self.entry.server.partition
-            (books_of self.entry.server.units.items self.entry.server.records.grants.items
-            self.entry.server.records.history.items)
-            self.entry.pairs.items self.entry.scripts.items →
+            (books_in self.entry.server) self.entry.pairs.items self.entry.scripts.items →
             PlainClientsAreScripted granted partitions trace) }
         ensures caused { IfSome result.trace (λ trace. (partitions : List Partition) →
             IsOfPlan partitions self.entry.pairs.items self.entry.scripts.items
@@ -196,7 +165,7 @@ impl<'p, Di: Blocks> Machine<'p, Di> {
 
 /// Runs a plan over an image of `count` blocks until nothing moves any more. Its trace keeps the law of the
 /// plan's runs, and its rows lead from the image's blocks to those that the image then has, each with a cause
-/// that the trace shows; each that is answered is in form, on a disk of so many blocks. Where memory runs out, the
+/// that the trace shows; each that is answered is in form, on a disk of `count` blocks. Where memory runs out, the
 /// image has the blocks to which the commands lead that were served till then.
 pub fn settle_plan<Di: Blocks + Drop>(
     alloc: Global,

@@ -3,7 +3,7 @@ ghost use Rattle.std.specs.Prelude.{◌≡◌, ◌≤◌, true, false, IfSome, M
 ghost use Rattle.boot_text.specs.Sound.{IsInRange};
 ghost use Rattle.boot_text.specs.declared.transfer.TheConstants.{MOST_BLOCKS, MOST_LBA};
 ghost use Rattle.vscsi_client.specs.Units.{FitsOp};
-ghost use Rattle.vcpu_run.specs.Commands.{HasNoData, IsOpOf, block_cdb, cdb_of, padded_cdb};
+ghost use Rattle.vcpu_run.specs.Commands.{HasNoData, IsOpOf, block_cdb, cdb_of, gives_data, moves_blocks, padded_cdb};
 ghost use Rattle.vcpu_run.specs.Works.{sends};
 
 use boot_text::Verb;
@@ -64,16 +64,14 @@ fn padded(bytes: &[u8]) -> [u8; 16]
     cdb
 }
 
-/// The command that a line sends; none where it sends no command.
-pub(crate) fn op_of(verb: &Verb) -> Option<Op>
+// The command of a line that reads or writes blocks; none of another.
+fn block_op(verb: &Verb) -> Option<Op>
     requires { IsInRange verb.now }
-    ensures fits { MatchOption result (sends verb.now ≡ false) FitsOp }
-    ensures sends { IfSome result (λ _. sends verb.now ≡ true) }
+    ensures fits { MatchOption result (moves_blocks verb.now ≡ false) FitsOp }
     ensures command { IfSome result (IsOpOf verb.now) }
     ensures cdb { IfSome result (λ op. op.cdb ≡ cdb_of verb.now) }
 {
     match verb {
-        Verb::Tur => Some(TEST_UNIT_READY),
         Verb::Read {
             lba,
             blocks,
@@ -102,7 +100,18 @@ pub(crate) fn op_of(verb: &Verb) -> Option<Op>
             pieces: *pieces,
             table: *table,
         }),
-        Verb::Command { cdb } => Some(without_data(padded(cdb.as_slice()))),
+        _ => None,
+    }
+}
+
+// The command of a line that gives its descriptor block, with data; none of another.
+fn given_op(verb: &Verb) -> Option<Op>
+    requires { IsInRange verb.now }
+    ensures fits { MatchOption result (gives_data verb.now ≡ false) FitsOp }
+    ensures command { IfSome result (IsOpOf verb.now) }
+    ensures cdb { IfSome result (λ op. op.cdb ≡ cdb_of verb.now) }
+{
+    match verb {
         Verb::CommandIn {
             cdb,
             at,
@@ -131,6 +140,23 @@ pub(crate) fn op_of(verb: &Verb) -> Option<Op>
             pieces: *pieces,
             table: *table,
         }),
+        _ => None,
+    }
+}
+
+/// The command that a line sends; none where it sends no command.
+pub(crate) fn op_of(verb: &Verb) -> Option<Op>
+    requires { IsInRange verb.now }
+    ensures fits { MatchOption result (sends verb.now ≡ false) FitsOp }
+    ensures sends { IfSome result (λ _. sends verb.now ≡ true) }
+    ensures command { IfSome result (IsOpOf verb.now) }
+    ensures cdb { IfSome result (λ op. op.cdb ≡ cdb_of verb.now) }
+{
+    match verb {
+        Verb::Tur => Some(TEST_UNIT_READY),
+        Verb::Command { cdb } => Some(without_data(padded(cdb.as_slice()))),
+        Verb::Read { .. } | Verb::Write { .. } => block_op(verb),
+        Verb::CommandIn { .. } | Verb::CommandOut { .. } => given_op(verb),
         _ => None,
     }
 }

@@ -3,21 +3,18 @@ ghost use Rattle.std.specs.Prelude.{◌≡◌, ◌≢◌, ◌*◌, ◌<◌, ℕ,
 ghost use Rattle.boot_text.specs.Sound.{IsFrom};
 ghost use Rattle.boot_text.specs.declared.statement.TheConstants.{MOST_QUEUE};
 ghost use Rattle.crq_session.specs.PlainState.{side_of, IsNewLink};
-ghost use Rattle.vcpu_run.specs.ClientStrokes.{KeepsOwn};
 ghost use Rattle.vcpu_run.specs.Agreed.{IsLoggedOut};
 ghost use Rattle.vcpu_run.specs.Answered.{IsAnswered};
 ghost use Rattle.block_server.specs.Causes.{Told};
-ghost use Rattle.block_server.specs.TurnTold.{stock};
-ghost use Rattle.vcpu_run.specs.Grants.{KeepsGrants};
-ghost use Rattle.vcpu_run.specs.Heard.{ShowsMore, TellsPair};
+ghost use Rattle.block_server.specs.TurnStock.{stock_of};
+ghost use Rattle.vcpu_run.specs.Heard.{TellsPair};
 ghost use Rattle.vcpu_run.specs.Links.{IsClosed, IsLinked, ServerWaits, link_state};
 ghost use Rattle.vcpu_run.specs.Machines.{FitsSeat, HasSeat, SitsAt, Stays};
-ghost use Rattle.vcpu_run.specs.OnDisk.{LastsOnDisk};
-ghost use Rattle.vcpu_run.specs.PairServed.{KeepsClient, PairGoesBy, SparesPair};
+ghost use Rattle.vcpu_run.specs.PairServed.{IsServedAt, LeavesClient, PairGoesBy, SparesPair};
 ghost use Rattle.vcpu_run.specs.Pairs.{IsPair};
-ghost use Rattle.vcpu_run.specs.PlainPairs.{IdlesPlainly, OpensPlainly, ServesPlainly, books_of};
-ghost use Rattle.vcpu_run.specs.Received.{IsNew, IsReceived};
-ghost use Rattle.vcpu_run.specs.ValuesPut.{SameValues};
+ghost use Rattle.vcpu_run.specs.PlainPairs.{IdlesPlainly, OpensPlainly, ServesPlainly};
+ghost use Rattle.vcpu_run.specs.Received.{IsNew};
+ghost use Rattle.vcpu_run.specs.Served.{ServerLasts, books_in};
 
 use crate::driver::Driver;
 use crate::session_end::SessionEnd;
@@ -148,63 +145,30 @@ impl Pair {
     ) -> Result<Moved, NoMemory>
         requires unit { unit < vec_len server.old.units }
         requires pair { IsPair server.old.partition server.old.copies.items unit self.old }
-        requires answered { IsAnswered server.old.records.history.items self.old }
-        requires received { IsReceived server.old.units.items server.old.copies.items
-            server.old.records.grants.items server.old.records.history.items unit self.old }
+        requires served { IsServedAt (stock_of server.old) unit self.old }
         ensures pair { IsPair server.old.partition server.new.copies.items unit self.new }
         ensures stays { Stays self.old self.new }
         ensures driver { self.new.driver ≡ self.old.driver }
         ensures units { vec_len server.new.units ≡ vec_len server.old.units }
-        ensures partition { server.new.partition ≡ server.old.partition }
-        ensures count { server.new.disk.count ≡ server.old.disk.count }
-        ensures answered { IsAnswered server.new.records.history.items self.new }
-        ensures received { IsReceived server.new.units.items server.new.copies.items
-            server.new.records.grants.items server.new.records.history.items unit self.new }
-        ensures shows { ShowsMore server.old.copies.items server.new.copies.items
+        ensures lasts { ServerLasts (stock_of server.old) (stock_of server.new) }
+        ensures served { IsServedAt (stock_of server.new) unit self.new }
+        ensures leaves { LeavesClient server.old.copies.items server.new.copies.items
             self.old self.new }
-        ensures own { self.new.own.unit ≡ self.old.own.unit }
-        ensures values { SameValues self.old self.new }
-        ensures owner { KeepsOwn self.old self.new }
         ensures told { (told : Told → Bool) →
             TellsPair told server.new.copies.items self.new → PairGoesBy told unit
-            (stock server.old.disk.count server.old.partition server.old.units.items
-            server.old.records server.old.copies.items
-            (Di.state server.old.disk.image).blocks)
-            (stock server.new.disk.count server.new.partition server.new.units.items
-            server.new.records server.new.copies.items
-            (Di.state server.new.disk.image).blocks)
-            self.old self.new }
-        ensures beside { (k : ℕ) → k ≢ unit → SparesPair
-            (stock server.old.disk.count server.old.partition server.old.units.items
-            server.old.records server.old.copies.items
-            (Di.state server.old.disk.image).blocks)
-            (stock server.new.disk.count server.new.partition server.new.units.items
-            server.new.records server.new.copies.items
-            (Di.state server.new.disk.image).blocks)
-            self.old k }
-        ensures grants { KeepsGrants server.old.units.items server.new.units.items
-            server.old.records.grants.items server.new.records.grants.items }
-        ensures disk { LastsOnDisk server.old.records.history.items
-            server.new.records.history.items (Di.state server.old.disk.image).blocks
-            (Di.state server.new.disk.image).blocks }
-        ensures client { KeepsClient self.old self.new }
+            (stock_of server.old) (stock_of server.new) self.old self.new }
+        ensures beside { (k : ℕ) → k ≢ unit →
+            SparesPair (stock_of server.old) (stock_of server.new) self.old k }
         ensures linked { OnOk result (IsLinked server.old.units.items unit self.old →
             IsLinked server.new.units.items unit self.new) }
         ensures quiet { IfOk result (λ moved. moved ≡ Moved.Quiet →
             IsLinked server.old.units.items unit self.old →
             ServerWaits (slice_get server.new.units.items unit) (link_state self.new.link)) }
         ensures plainly { OnOk result (ServesPlainly server.old.partition
-            (books_of server.old.units.items server.old.records.grants.items
-            server.old.records.history.items)
-            (books_of server.new.units.items server.new.records.grants.items
-            server.new.records.history.items)
-            unit self.old self.new) }
+            (books_in server.old) (books_in server.new) unit self.old self.new) }
         ensures idles { IfOk result (λ moved. moved ≡ Moved.Quiet →
             IdlesPlainly server.old.partition
-            (books_of server.old.units.items server.old.records.grants.items
-            server.old.records.history.items)
-            (books_of server.new.units.items server.new.records.grants.items
-            server.new.records.history.items) unit self.old) }
+            (books_in server.old) (books_in server.new) unit self.old) }
     {
         let mut end = SessionEnd {
             end: self.link.side(true),

@@ -1,39 +1,27 @@
 // The turns of a round: one of each partition, in their order.
-ghost use Rattle.std.specs.Prelude.{◌≡◌, ◌≢◌, ◌+◌, ◌<◌, ⊤, ℕ, All, Bool, IfOk, IsSomeAnd, IsTrue, List, OnOk, false};
+ghost use Rattle.std.specs.Prelude.{◌≡◌, ◌≢◌, ◌+◌, ◌<◌, ℕ, All, IfOk, IsSomeAnd, IsTrue, List, OnOk, false};
 ghost use Rattle.std.specs.Prelude.{length, slice_get, vec_len};
-ghost use Rattle.block_server.specs.Causes.{Told};
-ghost use Rattle.block_server.specs.declared.unit.Unit.{Unit};
-ghost use Rattle.block_server.specs.declared.records.Records.{Records};
 ghost use Rattle.std.specs.List.{list_all};
-ghost use Rattle.rdma_copy.specs.declared.copy.CopyRecord.{CopyRecord};
-ghost use Rattle.lan_script.specs.Units.{LanValue};
 ghost use Rattle.lan_script.specs.declared.seat.PortSeat.{PortSeat};
 ghost use Rattle.vcpu_run.specs.declared.pair.Pair.{Pair};
-ghost use Rattle.vio_num.specs.declared.history.Served.{Served};
 ghost use Rattle.vio_trace.specs.declared.window_rows.CopyRow.{CopyRow};
-ghost use Rattle.vcpu_run.specs.CopiesCounted.{AllMadeBy, copies_at};
-ghost use Rattle.vio_num.specs.Words.{Begins};
-ghost use Rattle.vcpu_run.specs.Agreed.{AreCredited, SameDrivers};
-ghost use Rattle.vcpu_run.specs.Answered.{AreAnswered};
-ghost use Rattle.vcpu_run.specs.Caused.{LastsBy};
-ghost use Rattle.vcpu_run.specs.OnDisk.{LastsOnDisk};
-ghost use Rattle.vcpu_run.specs.Heard.{AreHeard, TellsPairs};
+ghost use Rattle.vcpu_run.specs.CopiesCounted.{AllMadeBy};
+ghost use Rattle.vcpu_run.specs.Agreed.{AreCredited};
 ghost use Rattle.vcpu_run.specs.Lines.{IsOver, is_over};
-ghost use Rattle.vcpu_run.specs.Links.{AreIdle, AreIdleTo, AreLinked, AreOverTo, RestsAt};
-ghost use Rattle.vcpu_run.specs.Links.{SeatsRestWhole, ServerWaits, ServersWait, links_of};
-ghost use Rattle.vcpu_run.specs.Freed.{FreesNoneIf};
-ghost use Rattle.vcpu_run.specs.Grants.{KeepsGrants};
-ghost use Rattle.vcpu_run.specs.Holding.{AreOpenIf, AreOpenTo, IsOpenUpTo, KeepQueues};
-ghost use Rattle.vcpu_run.specs.ScriptTold.{AreOutIf, AreOutTo, AreTold, SameClients};
+ghost use Rattle.vcpu_run.specs.Links.{AreIdle, AreLinked};
+ghost use Rattle.vcpu_run.specs.Links.{ServerWaits, ServersWait, links_of};
+ghost use Rattle.vcpu_run.specs.Holding.{KeepQueues};
+ghost use Rattle.vcpu_run.specs.ScriptTold.{AreTold};
 ghost use Rattle.vcpu_run.specs.Scripts.{are_servers};
-ghost use Rattle.vcpu_run.specs.Machines.{AllRun, AllStay, AreScripts, IsMachine, IsServing};
-ghost use Rattle.vcpu_run.specs.Pairs.{ArePairs, AreDrivers};
-ghost use Rattle.vcpu_run.specs.PlainRuns.{ArePlain, ArePlainTo, ArePlainlyQuietTo, AwaitsNoneAt, NoneAwait};
-ghost use Rattle.vcpu_run.specs.PlainPairs.{IdlesPlainlyAt, ServerBooks, ServesPlainlyAt, SparesUnit, books_of};
+ghost use Rattle.vcpu_run.specs.Machines.{AllRun, AreScripts, IsMachine, IsServing};
+ghost use Rattle.vcpu_run.specs.Pairs.{AreDrivers};
+ghost use Rattle.vcpu_run.specs.PlainRuns.{ArePlain, ArePlainTo, AwaitsNoneAt, NoneAwait};
+ghost use Rattle.vcpu_run.specs.PlainPairs.{IdlesPlainlyAt, ServerBooks, ServesPlainlyAt};
 ghost use Rattle.vcpu_run.specs.PortWords.{PortsTell};
-ghost use Rattle.vcpu_run.specs.PortsRest.{AreTakenTo, TurnRests};
-ghost use Rattle.vcpu_run.specs.Received.{AreReceived};
-ghost use Rattle.vio_num.specs.declared.history.Grant.{Grant};
+ghost use Rattle.vcpu_run.specs.PortsRest.{AreTakenTo};
+ghost use Rattle.block_server.specs.TurnStock.{stock_of};
+ghost use Rattle.vcpu_run.specs.Served.{AllServed, ServesOn, SparesClients, StaysAside, books_in};
+ghost use Rattle.vcpu_run.specs.Rounds.{KeepsPairs, KeepsParts, KeepsScripts, PartsStay, QuietRound, QuietScript, QuietTurn, RestsWhereOver, parts_at};
 
 use crate::pair::Pair;
 use crate::script::Script;
@@ -53,48 +41,23 @@ pub(crate) fn run<Di: Blocks>(
 ) -> Result<(), NoMemory>
     requires machine { IsMachine server.old.partition (vec_len server.old.units)
         server.old.copies.items pairs.old scripts.old lan.old.seats }
-    requires answered { AreAnswered server.old.records.history.items pairs.old }
-    requires received { AreReceived server.old.units.items server.old.copies.items
-        server.old.records.grants.items server.old.records.history.items pairs.old }
-    requires heard { AreHeard server.old.disk.count server.old.partition
-        server.old.units.items server.old.records server.old.copies.items pairs.old }
+    requires served { AllServed (stock_of server.old) pairs.old }
     ensures machine { IsMachine server.new.partition (vec_len server.new.units)
         server.new.copies.items pairs.new scripts.new lan.new.seats }
-    ensures stay { AllStay pairs.old pairs.new }
-    ensures run { AllRun scripts.old scripts.new }
-    ensures credited { OnOk result (AreCredited (copies_at server.old.copies.items pairs.old)
-        pairs.old scripts.old → AreCredited (copies_at server.new.copies.items pairs.new)
-        pairs.new scripts.new) }
-    ensures said { OnOk result (AreTold pairs.old scripts.old →
-        AreTold pairs.new scripts.new) }
-    ensures told { OnOk result (PortsTell lan.old scripts.old →
-        PortsTell lan.new scripts.new) }
+    ensures served { AllServed (stock_of server.new) pairs.new }
+    ensures goes { ServesOn (stock_of server.old) (stock_of server.new) pairs.old pairs.new }
+    ensures stays { PartsStay pairs.old pairs.new scripts.old scripts.new lan.old lan.new }
+    ensures keeps { OnOk result (KeepsParts (parts_at server.old pairs.old scripts.old lan.old)
+        (parts_at server.new pairs.new scripts.new lan.new)) }
     ensures unfreed { OnOk result (AreLinked server.old.units.items pairs.old →
         KeepQueues pairs.old scripts.old → KeepQueues pairs.new scripts.new) }
     ensures over { OnOk result (All IsOver scripts.new) }
-    ensures answered { AreAnswered server.new.records.history.items pairs.new }
-    ensures received { AreReceived server.new.units.items server.new.copies.items
-        server.new.records.grants.items server.new.records.history.items pairs.new }
-    ensures heard { AreHeard server.new.disk.count server.new.partition
-        server.new.units.items server.new.records server.new.copies.items pairs.new }
-    ensures grants { KeepsGrants server.old.units.items server.new.units.items
-        server.old.records.grants.items server.new.records.grants.items }
-    ensures count { server.new.disk.count ≡ server.old.disk.count }
-    ensures disk { LastsOnDisk server.old.records.history.items server.new.records.history.items
-        (Di.state server.old.disk.image).blocks (Di.state server.new.disk.image).blocks }
-    ensures causes { LastsBy server.old.copies.items server.new.copies.items
-        pairs.old pairs.new server.old.records.history.items server.new.records.history.items
-        (Di.state server.old.disk.image).blocks (Di.state server.new.disk.image).blocks }
-    ensures lan { lan.new.seats ≡ lan.old.seats }
     ensures idle { OnOk result (AreLinked server.old.units.items pairs.old →
         AreIdle server.new.units.items pairs.new scripts.new) }
     ensures ports { OnOk result (AreTakenTo (length scripts.new) lan.new scripts.new) }
-    ensures plainly { OnOk result ((granted : ℕ) → ArePlain granted server.old.partition
-        (books_of server.old.units.items server.old.records.grants.items
-        server.old.records.history.items) pairs.old scripts.old →
-        ArePlain granted server.new.partition
-        (books_of server.new.units.items server.new.records.grants.items
-        server.new.records.history.items) pairs.new scripts.new) }
+    ensures plainly { OnOk result ((granted : ℕ) →
+        ArePlain granted server.old.partition (books_in server.old) pairs.old scripts.old →
+        ArePlain granted server.new.partition (books_in server.new) pairs.new scripts.new) }
 {
     for _round in 0..u64::MAX {
         let moved = step(server, pairs, scripts, lan)?;
@@ -132,53 +95,22 @@ fn step<Di: Blocks>(
 ) -> Result<Moved, NoMemory>
     requires machine { IsMachine server.old.partition (vec_len server.old.units)
         server.old.copies.items pairs.old scripts.old lan.old.seats }
-    requires answered { AreAnswered server.old.records.history.items pairs.old }
-    requires received { AreReceived server.old.units.items server.old.copies.items
-        server.old.records.grants.items server.old.records.history.items pairs.old }
-    requires heard { AreHeard server.old.disk.count server.old.partition
-        server.old.units.items server.old.records server.old.copies.items pairs.old }
+    requires served { AllServed (stock_of server.old) pairs.old }
     ensures machine { IsMachine server.new.partition (vec_len server.new.units)
         server.new.copies.items pairs.new scripts.new lan.new.seats }
-    ensures stay { AllStay pairs.old pairs.new }
-    ensures run { AllRun scripts.old scripts.new }
-    ensures credited { OnOk result (AreCredited (copies_at server.old.copies.items pairs.old)
-        pairs.old scripts.old → AreCredited (copies_at server.new.copies.items pairs.new)
-        pairs.new scripts.new) }
-    ensures said { OnOk result (AreTold pairs.old scripts.old →
-        AreTold pairs.new scripts.new) }
-    ensures told { OnOk result (PortsTell lan.old scripts.old →
-        PortsTell lan.new scripts.new) }
+    ensures served { AllServed (stock_of server.new) pairs.new }
+    ensures goes { ServesOn (stock_of server.old) (stock_of server.new) pairs.old pairs.new }
+    ensures stays { PartsStay pairs.old pairs.new scripts.old scripts.new lan.old lan.new }
+    ensures keeps { OnOk result (KeepsParts (parts_at server.old pairs.old scripts.old lan.old)
+        (parts_at server.new pairs.new scripts.new lan.new)) }
     ensures unfreed { OnOk result (AreLinked server.old.units.items pairs.old →
         KeepQueues pairs.old scripts.old → KeepQueues pairs.new scripts.new) }
-    ensures answered { AreAnswered server.new.records.history.items pairs.new }
-    ensures received { AreReceived server.new.units.items server.new.copies.items
-        server.new.records.grants.items server.new.records.history.items pairs.new }
-    ensures heard { AreHeard server.new.disk.count server.new.partition
-        server.new.units.items server.new.records server.new.copies.items pairs.new }
-    ensures grants { KeepsGrants server.old.units.items server.new.units.items
-        server.old.records.grants.items server.new.records.grants.items }
-    ensures count { server.new.disk.count ≡ server.old.disk.count }
-    ensures disk { LastsOnDisk server.old.records.history.items server.new.records.history.items
-        (Di.state server.old.disk.image).blocks (Di.state server.new.disk.image).blocks }
-    ensures causes { LastsBy server.old.copies.items server.new.copies.items
-        pairs.old pairs.new server.old.records.history.items server.new.records.history.items
-        (Di.state server.old.disk.image).blocks (Di.state server.new.disk.image).blocks }
-    ensures lan { lan.new.seats ≡ lan.old.seats }
-    ensures linked { OnOk result (AreLinked server.old.units.items pairs.old →
-        AreLinked server.new.units.items pairs.new) }
-    ensures idle { IfOk result (λ moved. moved ≡ Moved.Quiet →
-        AreLinked server.old.units.items pairs.old →
-        AreOverTo (length scripts.new) scripts.new →
-        AreIdleTo (length scripts.new) server.new.units.items pairs.new scripts.new) }
-    ensures ports { IfOk result (λ moved. moved ≡ Moved.Quiet →
-        AreOverTo (length scripts.new) scripts.new →
-        AreTakenTo (length scripts.new) lan.new scripts.new) }
-    ensures plainly { OnOk result ((granted : ℕ) → ArePlain granted server.old.partition
-        (books_of server.old.units.items server.old.records.grants.items
-        server.old.records.history.items) pairs.old scripts.old →
-        ArePlain granted server.new.partition
-        (books_of server.new.units.items server.new.records.grants.items
-        server.new.records.history.items) pairs.new scripts.new) }
+    ensures rests { IfOk result (λ moved. moved ≡ Moved.Quiet →
+        RestsWhereOver (parts_at server.old pairs.old scripts.old lan.old)
+        (parts_at server.new pairs.new scripts.new lan.new)) }
+    ensures plainly { OnOk result ((granted : ℕ) →
+        ArePlain granted server.old.partition (books_in server.old) pairs.old scripts.old →
+        ArePlain granted server.new.partition (books_in server.new) pairs.new scripts.new) }
 {
     match round(server, pairs, scripts, lan)? {
         Moved::Moved => Ok(Moved::Moved),
@@ -195,63 +127,22 @@ fn round<Di: Blocks>(
 ) -> Result<Moved, NoMemory>
     requires machine { IsMachine server.old.partition (vec_len server.old.units)
         server.old.copies.items pairs.old scripts.old lan.old.seats }
-    requires answered { AreAnswered server.old.records.history.items pairs.old }
-    requires received { AreReceived server.old.units.items server.old.copies.items
-        server.old.records.grants.items server.old.records.history.items pairs.old }
-    requires heard { AreHeard server.old.disk.count server.old.partition
-        server.old.units.items server.old.records server.old.copies.items pairs.old }
+    requires served { AllServed (stock_of server.old) pairs.old }
     ensures machine { IsMachine server.new.partition (vec_len server.new.units)
         server.new.copies.items pairs.new scripts.new lan.new.seats }
-    ensures stay { AllStay pairs.old pairs.new }
-    ensures run { AllRun scripts.old scripts.new }
-    ensures credited { OnOk result (AreCredited (copies_at server.old.copies.items pairs.old)
-        pairs.old scripts.old → AreCredited (copies_at server.new.copies.items pairs.new)
-        pairs.new scripts.new) }
-    ensures said { OnOk result (AreTold pairs.old scripts.old →
-        AreTold pairs.new scripts.new) }
-    ensures told { OnOk result (PortsTell lan.old scripts.old →
-        PortsTell lan.new scripts.new) }
+    ensures served { AllServed (stock_of server.new) pairs.new }
+    ensures goes { ServesOn (stock_of server.old) (stock_of server.new) pairs.old pairs.new }
+    ensures stays { PartsStay pairs.old pairs.new scripts.old scripts.new lan.old lan.new }
+    ensures keeps { OnOk result (KeepsParts (parts_at server.old pairs.old scripts.old lan.old)
+        (parts_at server.new pairs.new scripts.new lan.new)) }
     ensures unfreed { OnOk result (KeepQueues pairs.old scripts.old →
         KeepQueues pairs.new scripts.new) }
-    ensures opened { IfOk result (λ moved. moved ≡ Moved.Quiet →
-        AreLinked server.old.units.items pairs.old →
-        AreOpenTo (length scripts.new) pairs.new scripts.new) }
-    ensures answered { AreAnswered server.new.records.history.items pairs.new }
-    ensures received { AreReceived server.new.units.items server.new.copies.items
-        server.new.records.grants.items server.new.records.history.items pairs.new }
-    ensures heard { AreHeard server.new.disk.count server.new.partition
-        server.new.units.items server.new.records server.new.copies.items pairs.new }
-    ensures grants { KeepsGrants server.old.units.items server.new.units.items
-        server.old.records.grants.items server.new.records.grants.items }
-    ensures count { server.new.disk.count ≡ server.old.disk.count }
-    ensures disk { LastsOnDisk server.old.records.history.items server.new.records.history.items
-        (Di.state server.old.disk.image).blocks (Di.state server.new.disk.image).blocks }
-    ensures out { IfOk result (λ moved. moved ≡ Moved.Quiet → AreTold pairs.old scripts.old →
-        AreOutTo (length scripts.new) pairs.new scripts.new) }
-    ensures causes { LastsBy server.old.copies.items server.new.copies.items
-        pairs.old pairs.new server.old.records.history.items server.new.records.history.items
-        (Di.state server.old.disk.image).blocks (Di.state server.new.disk.image).blocks }
-    ensures lan { lan.new.seats ≡ lan.old.seats }
-    ensures linked { OnOk result (AreLinked server.old.units.items pairs.old →
-        AreLinked server.new.units.items pairs.new) }
-    ensures idle { IfOk result (λ moved. moved ≡ Moved.Quiet →
-        AreLinked server.old.units.items pairs.old →
-        AreOverTo (length scripts.new) scripts.new →
-        AreIdleTo (length scripts.new) server.new.units.items pairs.new scripts.new) }
-    ensures ports { IfOk result (λ moved. moved ≡ Moved.Quiet →
-        AreOverTo (length scripts.new) scripts.new →
-        AreTakenTo (length scripts.new) lan.new scripts.new) }
-    ensures plainly { OnOk result ((granted : ℕ) → ArePlain granted server.old.partition
-        (books_of server.old.units.items server.old.records.grants.items
-        server.old.records.history.items) pairs.old scripts.old →
-        ArePlain granted server.new.partition
-        (books_of server.new.units.items server.new.records.grants.items
-        server.new.records.history.items) pairs.new scripts.new) }
-    ensures quietly { IfOk result (λ moved. moved ≡ Moved.Quiet → (granted : ℕ) →
-        ArePlain granted server.old.partition
-        (books_of server.old.units.items server.old.records.grants.items
-        server.old.records.history.items) pairs.old scripts.old →
-        NoneAwait scripts.new) }
+    ensures plainly { OnOk result ((granted : ℕ) →
+        ArePlain granted server.old.partition (books_in server.old) pairs.old scripts.old →
+        ArePlain granted server.new.partition (books_in server.new) pairs.new scripts.new) }
+    ensures quiet { IfOk result (λ moved. moved ≡ Moved.Quiet →
+        QuietRound (parts_at server.old pairs.old scripts.old lan.old)
+        (parts_at server.new pairs.new scripts.new lan.new)) }
 {
     let mut moved = Moved::Quiet;
     for number in 0..scripts.len() {
@@ -272,71 +163,25 @@ fn turn_at<Di: Blocks>(
     requires there { number < length scripts.old }
     requires machine { IsMachine server.old.partition (vec_len server.old.units)
         server.old.copies.items pairs.old scripts.old lan.old.seats }
-    requires answered { AreAnswered server.old.records.history.items pairs.old }
-    requires received { AreReceived server.old.units.items server.old.copies.items
-        server.old.records.grants.items server.old.records.history.items pairs.old }
-    requires heard { AreHeard server.old.disk.count server.old.partition
-        server.old.units.items server.old.records server.old.copies.items pairs.old }
+    requires served { AllServed (stock_of server.old) pairs.old }
     ensures machine { IsMachine server.new.partition (vec_len server.new.units)
         server.new.copies.items pairs.new scripts.new lan.new.seats }
-    ensures stay { AllStay pairs.old pairs.new }
-    ensures run { AllRun scripts.old scripts.new }
-    ensures credited { OnOk result (AreCredited (copies_at server.old.copies.items pairs.old)
-        pairs.old scripts.old → AreCredited (copies_at server.new.copies.items pairs.new)
-        pairs.new scripts.new) }
-    ensures said { OnOk result (AreTold pairs.old scripts.old →
-        AreTold pairs.new scripts.new) }
-    ensures told { OnOk result (PortsTell lan.old scripts.old →
-        PortsTell lan.new scripts.new) }
+    ensures served { AllServed (stock_of server.new) pairs.new }
+    ensures goes { ServesOn (stock_of server.old) (stock_of server.new) pairs.old pairs.new }
+    ensures stays { PartsStay pairs.old pairs.new scripts.old scripts.new lan.old lan.new }
+    ensures keeps { OnOk result (KeepsParts (parts_at server.old pairs.old scripts.old lan.old)
+        (parts_at server.new pairs.new scripts.new lan.new)) }
     ensures unfreed { OnOk result (KeepQueues pairs.old scripts.old →
         KeepQueues pairs.new scripts.new) }
-    ensures opened { IfOk result (λ moved. moved ≡ Moved.Quiet →
-        AreLinked server.old.units.items pairs.old → IsOpenUpTo number pairs.old scripts.old →
-        IsOpenUpTo (number + 1) pairs.new scripts.new) }
-    ensures answered { AreAnswered server.new.records.history.items pairs.new }
-    ensures received { AreReceived server.new.units.items server.new.copies.items
-        server.new.records.grants.items server.new.records.history.items pairs.new }
-    ensures heard { AreHeard server.new.disk.count server.new.partition
-        server.new.units.items server.new.records server.new.copies.items pairs.new }
-    ensures grants { KeepsGrants server.old.units.items server.new.units.items
-        server.old.records.grants.items server.new.records.grants.items }
-    ensures count { server.new.disk.count ≡ server.old.disk.count }
-    ensures disk { LastsOnDisk server.old.records.history.items server.new.records.history.items
-        (Di.state server.old.disk.image).blocks (Di.state server.new.disk.image).blocks }
-    ensures out { IfOk result (λ moved. moved ≡ Moved.Quiet → AreTold pairs.old scripts.old →
-        AreOutTo number pairs.old scripts.old → AreOutTo (number + 1) pairs.new scripts.new) }
-    ensures causes { LastsBy server.old.copies.items server.new.copies.items
-        pairs.old pairs.new server.old.records.history.items server.new.records.history.items
-        (Di.state server.old.disk.image).blocks (Di.state server.new.disk.image).blocks }
-    ensures lan { lan.new.seats ≡ lan.old.seats }
-    ensures linked { OnOk result (AreLinked server.old.units.items pairs.old →
-        AreLinked server.new.units.items pairs.new) }
-    ensures idle { IfOk result (λ moved. moved ≡ Moved.Quiet →
-        AreLinked server.old.units.items pairs.old →
-        IsSomeAnd (slice_get scripts.new number) IsOver →
-        RestsAt number scripts.new server.old.units.items server.new.units.items
-        pairs.old pairs.new) }
-    ensures ports { IfOk result (λ moved. moved ≡ Moved.Quiet →
-        IsSomeAnd (slice_get scripts.new number) IsOver →
-        IsSomeAnd (slice_get scripts.new number) (λ script. TurnRests script lan.old lan.new)) }
     ensures elsewhere { (i : ℕ) → i ≢ number →
         slice_get scripts.new i ≡ slice_get scripts.old i }
     ensures plainly { OnOk result ((granted : ℕ) → ArePlainTo granted server.old.partition number
-        (books_of server.old.units.items server.old.records.grants.items
-        server.old.records.history.items) pairs.old scripts.old →
+        (books_in server.old) pairs.old scripts.old →
         ArePlainTo granted server.new.partition (number + 1)
-        (books_of server.new.units.items server.new.records.grants.items
-        server.new.records.history.items) pairs.new scripts.new) }
-    ensures quietly { IfOk result (λ moved. moved ≡ Moved.Quiet → (granted : ℕ) →
-        ArePlainTo granted server.old.partition number
-        (books_of server.old.units.items server.old.records.grants.items
-        server.old.records.history.items) pairs.old scripts.old →
-        ArePlainlyQuietTo server.old.partition number
-        (books_of server.old.units.items server.old.records.grants.items
-        server.old.records.history.items) scripts.old →
-        ArePlainlyQuietTo server.new.partition (number + 1)
-        (books_of server.new.units.items server.new.records.grants.items
-        server.new.records.history.items) scripts.new) }
+        (books_in server.new) pairs.new scripts.new) }
+    ensures quiet { IfOk result (λ moved. moved ≡ Moved.Quiet →
+        QuietTurn number (parts_at server.old pairs.old scripts.old lan.old)
+        (parts_at server.new pairs.new scripts.new lan.new)) }
 {
     if scripts[number].is_of_servers() {
         serve(server, pairs)
@@ -349,49 +194,23 @@ fn turn_at<Di: Blocks>(
 fn serve<Di: Blocks>(server: &mut Server<Di>, pairs: &mut [Pair]) -> Result<Moved, NoMemory>
     requires serving { IsServing server.old.partition (vec_len server.old.units)
         server.old.copies.items pairs.old }
-    requires answered { AreAnswered server.old.records.history.items pairs.old }
-    requires received { AreReceived server.old.units.items server.old.copies.items
-        server.old.records.grants.items server.old.records.history.items pairs.old }
-    requires heard { AreHeard server.old.disk.count server.old.partition
-        server.old.units.items server.old.records server.old.copies.items pairs.old }
+    requires served { AllServed (stock_of server.old) pairs.old }
     ensures serving { IsServing server.new.partition (vec_len server.new.units)
         server.new.copies.items pairs.new }
-    ensures copies { Begins server.old.copies.items server.new.copies.items }
-    ensures stay { AllStay pairs.old pairs.new }
-    ensures drivers { SameDrivers pairs.old pairs.new }
-    ensures clients { SameClients pairs.old pairs.new }
-    ensures stays { FreesNoneIf (λ _. ⊤) pairs.old pairs.new }
-    ensures answered { AreAnswered server.new.records.history.items pairs.new }
-    ensures received { AreReceived server.new.units.items server.new.copies.items
-        server.new.records.grants.items server.new.records.history.items pairs.new }
-    ensures heard { AreHeard server.new.disk.count server.new.partition
-        server.new.units.items server.new.records server.new.copies.items pairs.new }
-    ensures grants { KeepsGrants server.old.units.items server.new.units.items
-        server.old.records.grants.items server.new.records.grants.items }
-    ensures count { server.new.disk.count ≡ server.old.disk.count }
-    ensures disk { LastsOnDisk server.old.records.history.items server.new.records.history.items
-        (Di.state server.old.disk.image).blocks (Di.state server.new.disk.image).blocks }
-    ensures causes { LastsBy server.old.copies.items server.new.copies.items
-        pairs.old pairs.new server.old.records.history.items server.new.records.history.items
-        (Di.state server.old.disk.image).blocks (Di.state server.new.disk.image).blocks }
+    ensures served { AllServed (stock_of server.new) pairs.new }
+    ensures goes { ServesOn (stock_of server.old) (stock_of server.new) pairs.old pairs.new }
+    ensures spares { SparesClients server.old.copies.items server.new.copies.items
+        pairs.old pairs.new }
     ensures linked { OnOk result (AreLinked server.old.units.items pairs.old →
         AreLinked server.new.units.items pairs.new) }
     ensures wait { IfOk result (λ moved. moved ≡ Moved.Quiet →
         AreLinked server.old.units.items pairs.old →
         ServersWait server.new.units.items (links_of pairs.new)) }
-    ensures partition { server.new.partition ≡ server.old.partition }
     ensures plainly { OnOk result ((k : ℕ) → ServesPlainlyAt server.old.partition
-        (books_of server.old.units.items server.old.records.grants.items
-        server.old.records.history.items)
-        (books_of server.new.units.items server.new.records.grants.items
-        server.new.records.history.items)
-        pairs.old pairs.new k) }
+        (books_in server.old) (books_in server.new) pairs.old pairs.new k) }
     ensures idles { IfOk result (λ moved. moved ≡ Moved.Quiet → (k : ℕ) →
         IdlesPlainlyAt server.old.partition
-        (books_of server.old.units.items server.old.records.grants.items
-        server.old.records.history.items)
-        (books_of server.new.units.items server.new.records.grants.items
-        server.new.records.history.items) pairs.old k) }
+        (books_in server.old) (books_in server.new) pairs.old k) }
 {
     let mut moved = Moved::Quiet;
     for unit in 0..pairs.len() {
@@ -410,58 +229,26 @@ fn serve_at<Di: Blocks>(
     requires there { unit < length pairs.old }
     requires serving { IsServing server.old.partition (vec_len server.old.units)
         server.old.copies.items pairs.old }
-    requires answered { AreAnswered server.old.records.history.items pairs.old }
-    requires received { AreReceived server.old.units.items server.old.copies.items
-        server.old.records.grants.items server.old.records.history.items pairs.old }
-    requires heard { AreHeard server.old.disk.count server.old.partition
-        server.old.units.items server.old.records server.old.copies.items pairs.old }
+    requires served { AllServed (stock_of server.old) pairs.old }
     ensures serving { IsServing server.new.partition (vec_len server.new.units)
         server.new.copies.items pairs.new }
-    ensures copies { Begins server.old.copies.items server.new.copies.items }
-    ensures stay { AllStay pairs.old pairs.new }
-    ensures drivers { SameDrivers pairs.old pairs.new }
-    ensures clients { SameClients pairs.old pairs.new }
-    ensures stays { FreesNoneIf (λ _. ⊤) pairs.old pairs.new }
-    ensures answered { AreAnswered server.new.records.history.items pairs.new }
-    ensures received { AreReceived server.new.units.items server.new.copies.items
-        server.new.records.grants.items server.new.records.history.items pairs.new }
-    ensures heard { AreHeard server.new.disk.count server.new.partition
-        server.new.units.items server.new.records server.new.copies.items pairs.new }
-    ensures grants { KeepsGrants server.old.units.items server.new.units.items
-        server.old.records.grants.items server.new.records.grants.items }
-    ensures count { server.new.disk.count ≡ server.old.disk.count }
-    ensures disk { LastsOnDisk server.old.records.history.items server.new.records.history.items
-        (Di.state server.old.disk.image).blocks (Di.state server.new.disk.image).blocks }
-    ensures causes { LastsBy server.old.copies.items server.new.copies.items
-        pairs.old pairs.new server.old.records.history.items server.new.records.history.items
-        (Di.state server.old.disk.image).blocks (Di.state server.new.disk.image).blocks }
+    ensures served { AllServed (stock_of server.new) pairs.new }
+    ensures goes { ServesOn (stock_of server.old) (stock_of server.new) pairs.old pairs.new }
+    ensures spares { SparesClients server.old.copies.items server.new.copies.items
+        pairs.old pairs.new }
     ensures linked { OnOk result (AreLinked server.old.units.items pairs.old →
         AreLinked server.new.units.items pairs.new) }
     ensures waits { IfOk result (λ moved. moved ≡ Moved.Quiet →
         AreLinked server.old.units.items pairs.old →
         IsSomeAnd (slice_get (links_of pairs.new) unit)
         (ServerWaits (slice_get server.new.units.items unit))) }
-    ensures units_else { (k : ℕ) → k ≢ unit →
-        slice_get server.new.units.items k ≡ slice_get server.old.units.items k }
-    ensures elsewhere { (k : ℕ) → k ≢ unit → slice_get pairs.new k ≡ slice_get pairs.old k }
-    ensures partition { server.new.partition ≡ server.old.partition }
+    ensures aside { (k : ℕ) → k ≢ unit →
+        StaysAside (stock_of server.old) (stock_of server.new) pairs.old pairs.new k }
     ensures plainly { OnOk result (ServesPlainlyAt server.old.partition
-        (books_of server.old.units.items server.old.records.grants.items
-        server.old.records.history.items)
-        (books_of server.new.units.items server.new.records.grants.items
-        server.new.records.history.items)
-        pairs.old pairs.new unit) }
+        (books_in server.old) (books_in server.new) pairs.old pairs.new unit) }
     ensures idles { IfOk result (λ moved. moved ≡ Moved.Quiet →
         IdlesPlainlyAt server.old.partition
-        (books_of server.old.units.items server.old.records.grants.items
-        server.old.records.history.items)
-        (books_of server.new.units.items server.new.records.grants.items
-        server.new.records.history.items) pairs.old unit) }
-    ensures plainly_else { (k : ℕ) → k ≢ unit → SparesUnit server.old.partition
-        (books_of server.old.units.items server.old.records.grants.items
-        server.old.records.history.items)
-        (books_of server.new.units.items server.new.records.grants.items
-        server.new.records.history.items) k }
+        (books_in server.old) (books_in server.new) pairs.old unit) }
 {
     pairs[unit].serve(server, unit as u8)
 }
@@ -476,12 +263,10 @@ fn run_script(
     requires there { number < length scripts.old }
     requires drivers { AreDrivers pairs.old }
     requires scripts { AreScripts pairs.old lan.old.seats scripts.old }
-    ensures pairs { (home : ℕ) (copies : List CopyRecord) →
-        ArePairs home copies pairs.old → ArePairs home copies pairs.new }
     ensures drivers { AreDrivers pairs.new }
     ensures scripts { AreScripts pairs.new lan.new.seats scripts.new }
-    ensures stay { AllStay pairs.old pairs.new }
-    ensures run { AllRun scripts.old scripts.new }
+    ensures pairs { KeepsPairs pairs.old pairs.new }
+    ensures stays { PartsStay pairs.old pairs.new scripts.old scripts.new lan.old lan.new }
     ensures credited { OnOk result ((copies : ℕ → List CopyRow) → AllMadeBy copies pairs.new →
         AreCredited copies pairs.old scripts.old →
         AreCredited copies pairs.new scripts.new) }
@@ -491,42 +276,14 @@ fn run_script(
         PortsTell lan.new scripts.new) }
     ensures unfreed { OnOk result (KeepQueues pairs.old scripts.old →
         KeepQueues pairs.new scripts.new) }
-    ensures opened { IfOk result (λ moved. moved ≡ Moved.Quiet →
-        IsSomeAnd (slice_get scripts.old number) (λ script. are_servers script.seats.items ≡ false) →
-        IsOpenUpTo number pairs.old scripts.old → IsOpenUpTo (number + 1) pairs.new scripts.new) }
-    ensures answered { (history : List Served) →
-        AreAnswered history pairs.old → AreAnswered history pairs.new }
-    ensures received { (units : List Unit) (copies : List CopyRecord) (grants : List Grant)
-        (history : List Served) → AreReceived units copies grants history pairs.old →
-        AreReceived units copies grants history pairs.new }
-    ensures out { IfOk result (λ moved. moved ≡ Moved.Quiet → AreTold pairs.old scripts.old →
-        AreOutTo number pairs.old scripts.old → AreOutTo (number + 1) pairs.new scripts.new) }
-    ensures tells { (copies : List CopyRecord) (told : Told → Bool) →
-        TellsPairs told copies pairs.new → TellsPairs told copies pairs.old }
-    ensures heard { (size partition : ℕ) (units : List Unit) (records : Records)
-        (copies : List CopyRecord) → AreHeard size partition units records copies pairs.old →
-        AreHeard size partition units records copies pairs.new }
-    ensures lan { lan.new.seats ≡ lan.old.seats }
-    ensures linked { (units : List Unit) → AreLinked units pairs.old → AreLinked units pairs.new }
-    ensures idle { IfOk result (λ moved. moved ≡ Moved.Quiet →
-        IsSomeAnd (slice_get scripts.new number) IsOver →
-        IsSomeAnd (slice_get scripts.new number)
-        (λ script. SeatsRestWhole script.seats.items pairs.old pairs.new)) }
-    ensures ports { IfOk result (λ moved. moved ≡ Moved.Quiet →
-        IsSomeAnd (slice_get scripts.new number) IsOver →
-        IsSomeAnd (slice_get scripts.new number) (λ script. TurnRests script lan.old lan.new)) }
     ensures elsewhere { (i : ℕ) → i ≢ number →
         slice_get scripts.new i ≡ slice_get scripts.old i }
     ensures plainly { OnOk result ((granted home : ℕ) (books : ServerBooks) →
         IsSomeAnd (slice_get scripts.old number) (λ script. are_servers script.seats.items ≡ false) →
         ArePlainTo granted home number books pairs.old scripts.old →
         ArePlainTo granted home (number + 1) books pairs.new scripts.new) }
-    ensures quietly { IfOk result (λ moved. moved ≡ Moved.Quiet →
-        (granted home : ℕ) (books : ServerBooks) →
-        IsSomeAnd (slice_get scripts.old number) (λ script. are_servers script.seats.items ≡ false) →
-        ArePlainTo granted home number books pairs.old scripts.old →
-        ArePlainlyQuietTo home number books scripts.old →
-        ArePlainlyQuietTo home (number + 1) books scripts.new) }
+    ensures quiet { IfOk result (λ moved. moved ≡ Moved.Quiet →
+        QuietScript number pairs.old pairs.new scripts.old scripts.new lan.old lan.new) }
 {
     scripts[number].turn(pairs, lan)
 }
@@ -536,18 +293,9 @@ fn end_lines(scripts: &mut [Script<'_>]) -> Result<Moved, NoMemory>
     ensures scripts { (pairs : List Pair) (ports : List PortSeat) →
         AreScripts pairs ports scripts.old → AreScripts pairs ports scripts.new }
     ensures run { AllRun scripts.old scripts.new }
-    ensures credited { OnOk result ((pairs : List Pair) (ports : List PortSeat) →
-        AreScripts pairs ports scripts.old → (copies : ℕ → List CopyRow) → AllMadeBy copies pairs →
-        AreCredited copies pairs scripts.old → AreCredited copies pairs scripts.new) }
-    ensures said { OnOk result ((pairs : List Pair) (ports : List PortSeat) →
-        AreScripts pairs ports scripts.old → AreOutTo (length scripts.old) pairs scripts.old →
-        AreTold pairs scripts.old → AreTold pairs scripts.new) }
-    ensures told { OnOk result ((pairs : List Pair) (ports : List PortSeat) (lan : LanValue) →
-        AreScripts pairs ports scripts.old → PortsTell lan scripts.old →
-        PortsTell lan scripts.new) }
-    ensures unfreed { OnOk result ((pairs : List Pair) (ports : List PortSeat) →
-        AreScripts pairs ports scripts.old → AreOpenTo (length scripts.old) pairs scripts.old →
-        KeepQueues pairs scripts.old → KeepQueues pairs scripts.new) }
+    ensures keeps { OnOk result ((pairs : List Pair) (ports : List PortSeat) →
+        AreScripts pairs ports scripts.old →
+        KeepsScripts (λ i. i < length scripts.old) pairs scripts.old scripts.new) }
     ensures quiet { IfOk result (λ moved. moved ≡ Moved.Quiet → scripts.new ≡ scripts.old) }
     ensures plainly { OnOk result ((granted home : ℕ) (books : ServerBooks) (pairs : List Pair)
         (ports : List PortSeat) → AreScripts pairs ports scripts.old → NoneAwait scripts.old →
@@ -568,24 +316,15 @@ fn end_line_at(scripts: &mut [Script<'_>], number: usize) -> Result<Moved, NoMem
     ensures scripts { (pairs : List Pair) (ports : List PortSeat) →
         AreScripts pairs ports scripts.old → AreScripts pairs ports scripts.new }
     ensures run { AllRun scripts.old scripts.new }
-    ensures credited { OnOk result ((pairs : List Pair) (ports : List PortSeat) →
-        AreScripts pairs ports scripts.old → (copies : ℕ → List CopyRow) → AllMadeBy copies pairs →
-        AreCredited copies pairs scripts.old → AreCredited copies pairs scripts.new) }
-    ensures said { OnOk result ((pairs : List Pair) (ports : List PortSeat) →
-        AreScripts pairs ports scripts.old → AreOutIf (λ i. i ≡ number) pairs scripts.old →
-        AreTold pairs scripts.old → AreTold pairs scripts.new) }
-    ensures told { OnOk result ((pairs : List Pair) (ports : List PortSeat) (lan : LanValue) →
-        AreScripts pairs ports scripts.old → PortsTell lan scripts.old →
-        PortsTell lan scripts.new) }
-    ensures unfreed { OnOk result ((pairs : List Pair) (ports : List PortSeat) →
-        AreScripts pairs ports scripts.old → AreOpenIf (λ i. i ≡ number) pairs scripts.old →
-        KeepQueues pairs scripts.old → KeepQueues pairs scripts.new) }
+    ensures keeps { OnOk result ((pairs : List Pair) (ports : List PortSeat) →
+        AreScripts pairs ports scripts.old →
+        KeepsScripts (λ i. i ≡ number) pairs scripts.old scripts.new) }
     ensures quiet { IfOk result (λ moved. moved ≡ Moved.Quiet → scripts.new ≡ scripts.old) }
     ensures elsewhere { (i : ℕ) → i ≢ number →
         slice_get scripts.new i ≡ slice_get scripts.old i }
     ensures plainly { OnOk result ((granted home : ℕ) (books : ServerBooks) (pairs : List Pair)
-        (ports : List PortSeat) → AreScripts pairs ports scripts.old →
-        AwaitsNoneAt number scripts.old → ArePlain granted home books pairs scripts.old →
+        (ports : List PortSeat) → AreScripts pairs ports scripts.old → AwaitsNoneAt number scripts.old →
+        ArePlain granted home books pairs scripts.old →
         ArePlain granted home books pairs scripts.new) }
 {
     scripts[number].end_waiting()

@@ -1,6 +1,7 @@
 // A partition: its script, and a turn of it.
 ghost use Rattle.std.specs.Prelude.{[], ◌≡◌, ◌<◌, ℕ, All, IfOk, IfSome, List, Some, OnOk, false, length, slice_get, true};
 ghost use Rattle.std.specs.List.{AllPairs};
+ghost use Rattle.vcpu_run.specs.ActsAt.{AllLead, FailsOnce, GoesOnce, GoesWith, TurnActs};
 ghost use Rattle.vcpu_run.specs.declared.pair.Pair.{Pair as PairValue};
 ghost use Rattle.vcpu_run.specs.Agreed.{AreLoggedOut, IsCredited, IsEnded, SameElse};
 ghost use Rattle.vio_trace.specs.declared.window_rows.CopyRow.{CopyRow};
@@ -151,6 +152,7 @@ impl<'p> Script<'p> {
         ensures plainly { OnOk result (TurnsPlainly pairs.old pairs.new self.old self.new) }
         ensures quiets { IfOk result (λ moved. moved ≡ Moved.Quiet →
             QuietsPlainly pairs.old pairs.new self.old self.new) }
+        ensures acts { OnOk result (TurnActs pairs.old pairs.new self.old self.new) }
     {
         let pushed = push_events(&self.seats, pairs)?;
         let moved = self.go_on(pairs, lan)?;
@@ -189,6 +191,7 @@ impl<'p> Script<'p> {
         ensures plainly { OnOk result (TurnsPlainly pairs.old pairs.new self.old self.new) }
         ensures quiets { IfOk result (λ moved. moved ≡ Moved.Quiet →
             QuietsPlainly pairs.old pairs.new self.old self.new) }
+        ensures acts { OnOk result (GoesOnce pairs.old pairs.new self.old self.new) }
     {
         let lines = self.lines;
         match lines.get(self.at) {
@@ -227,6 +230,7 @@ impl<'p> Script<'p> {
         ensures plainly { OnOk result (TurnsPlainly pairs.old pairs.new self.old self.new) }
         ensures quiets { IfOk result (λ moved. moved ≡ Moved.Quiet →
             QuietsPlainly pairs.old pairs.new self.old self.new) }
+        ensures acts { OnOk result (GoesWith line.now pairs.old pairs.new self.old self.new) }
     {
         if let Verb::Fail = line.verb {
             return self.step_fail(pairs, lan, line);
@@ -285,6 +289,7 @@ impl<'p> Script<'p> {
         ensures plainly { OnOk result (TurnsPlainly pairs.old pairs.new self.old self.new) }
         ensures quiets { IfOk result (λ moved. moved ≡ Moved.Quiet →
             QuietsPlainly pairs.old pairs.new self.old self.new) }
+        ensures acts { OnOk result (AllLead FailsOnce pairs.old pairs.new) }
     {
         if fail(self.partition, &self.seats, pairs, lan)? {
             self.end(line, Outcome::Done)?;

@@ -2,6 +2,8 @@
 ghost use Rattle.std.specs.Prelude.{◌≡◌, [], ⊤, true, false, IfOk, IsSomeAnd, OnOk, Some, length};
 ghost use Rattle.crq_session.specs.PlainState.{end_of, side_of};
 ghost use Rattle.vscsi_client.specs.Turned.{unlinked};
+ghost use Rattle.vcpu_run.specs.Acts.{TakesRest};
+ghost use Rattle.vcpu_run.specs.ActsAt.{AtPair, FailsOnce, PairActs, PushesEvent};
 ghost use Rattle.vcpu_run.specs.Pairs.{Drives, IsDriver};
 ghost use Rattle.vcpu_run.specs.Credited.{StepsAgreed, taken_in};
 ghost use Rattle.vcpu_run.specs.EventsMade.{PairCalm, PairMakes, PairShuts};
@@ -52,6 +54,7 @@ pub(crate) fn push_event(pair: &mut Pair) -> Result<Moved, NoMemory>
     ensures quiet { IfOk result (λ moved. moved ≡ Moved.Quiet → PairRests pair.old pair.new) }
     ensures waits { IfOk result (λ moved. moved ≡ Moved.Quiet → EventWaits pair.new) }
     ensures plainly { OnOk result (PairTalksOn pair.old pair.new) }
+    ensures acts { OnOk result (AtPair PushesEvent pair.old pair.new) }
 {
     let mut end = pair.link.side(false);
     end.reserve(1)?;
@@ -86,6 +89,7 @@ pub(crate) fn step(pair: &mut Pair, line: &Line, progress: &mut Progress) -> Res
     ensures stays { is_reset line.now.verb ≡ false → FreesNoneAt pair.old pair.new }
     ensures plainly { PairPlainly line.now.verb progress.old progress.new
         pair.old pair.new result }
+    ensures acts { IfOk result (PairActs line.now progress.old progress.new pair.old pair.new) }
 {
     let before = count_put(pair);
     let step = drive(pair, line, progress)?;
@@ -117,6 +121,7 @@ fn drive(pair: &mut Pair, line: &Line, progress: &mut Progress) -> Result<Step, 
     ensures stays { is_reset line.now.verb ≡ false → FreesNoneAt pair.old pair.new }
     ensures plainly { DriverPlainly line.now.verb progress.old progress.new
         pair.old pair.new result }
+    ensures acts { IfOk result (PairActs line.now progress.old progress.new pair.old pair.new) }
 {
     let Some(driver) = &mut pair.driver else {
         unreachable!()
@@ -167,6 +172,7 @@ pub(crate) fn take_rest(pair: &mut Pair) -> Result<Moved, NoMemory>
     ensures waits { IfOk result (λ moved. moved ≡ Moved.Quiet →
         ClientWaits (link_state pair.new.link)) }
     ensures plainly { OnOk result (PairRestsPlainly pair.old pair.new) }
+    ensures acts { OnOk result (AtPair TakesRest pair.old pair.new) }
 {
     let Some(driver) = &mut pair.driver else {
         unreachable!()
@@ -193,6 +199,7 @@ pub(crate) fn fail(pair: &mut Pair) -> Result<bool, NoMemory>
     ensures credit { OnDrivers pair.old.driver pair.new.driver (λ a b.
         SameCredits a.client b.client) }
     ensures plainly { OnOk result (PairFailsPlainly pair.old pair.new) }
+    ensures acts { OnOk result (AtPair FailsOnce pair.old pair.new) }
 {
     let mut end = pair.link.side(false);
     end.reserve(1)?;

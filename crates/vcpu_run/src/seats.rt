@@ -1,5 +1,7 @@
 // What a partition does at its units, one after the other or at one of them.
 ghost use Rattle.std.specs.Prelude.{◌≡◌, ◌<◌, ◌≤◌, ◌∷◌, [], ⊤, ℕ, false, true, IfOk, IfSome, OnOk, Some, IsSomeAnd, length, slice_get};
+ghost use Rattle.vcpu_run.specs.Acts.{TakesRest};
+ghost use Rattle.vcpu_run.specs.ActsAt.{AllLead, FailsOnce, LineActs, PushesEvent, SeatActs};
 ghost use Rattle.vcpu_run.specs.Agreed.{AllSame, SameBeside, SameDrivers, SameElse, StepsLine, StepsSeat};
 ghost use Rattle.vcpu_run.specs.CallsSaid.{StepSaid, seen_from};
 ghost use Rattle.vcpu_run.specs.ClientMoments.{LineStepped, SeatStepped};
@@ -62,6 +64,7 @@ fn push_event_of(pairs: &mut [Pair], pair: usize) -> Result<Moved, NoMemory>
     ensures waits { IfOk result (λ moved. moved ≡ Moved.Quiet →
         IfSome (slice_get pairs.new pair) EventWaits) }
     ensures plainly { OnOk result (AllTalkOn pairs.old pairs.new) }
+    ensures acts { OnOk result (AllLead PushesEvent pairs.old pairs.new) }
 {
     seat::push_event(&mut pairs[pair])
 }
@@ -78,6 +81,7 @@ fn push_event_at(pairs: &mut [Pair], seat: Seat) -> Result<Moved, NoMemory>
     ensures waits { IfOk result (λ moved. moved ≡ Moved.Quiet → (k : ℕ) → seat ≡ sits.Client k →
         IfSome (slice_get pairs.new k) EventWaits) }
     ensures plainly { OnOk result (AllTalkOn pairs.old pairs.new) }
+    ensures acts { OnOk result (AllLead PushesEvent pairs.old pairs.new) }
 {
     match seat {
         Seat::Client(pair) => push_event_of(pairs, pair),
@@ -96,6 +100,7 @@ pub(crate) fn push_events(seats: &[Seat], pairs: &mut [Pair]) -> Result<Moved, N
     ensures quiet { IfOk result (λ moved. moved ≡ Moved.Quiet → LinksRest pairs.old pairs.new) }
     ensures waits { IfOk result (λ moved. moved ≡ Moved.Quiet → EventsWait seats.now pairs.new) }
     ensures plainly { OnOk result (AllTalkOn pairs.old pairs.new) }
+    ensures acts { OnOk result (AllLead PushesEvent pairs.old pairs.new) }
 {
     let mut moved = Moved::Quiet;
     for k in 0..seats.len() {
@@ -131,6 +136,8 @@ pub(crate) fn step_at(
         pairs.old pairs.new }
     ensures plainly { SeatPlainly pair line.now.verb progress.old progress.new
         pairs.old pairs.new result }
+    ensures acts { IfOk result (SeatActs pair line.now progress.old progress.new
+        pairs.old pairs.new) }
 {
     seat::step(&mut pairs[pair], line, progress)
 }
@@ -176,6 +183,8 @@ fn step_own(
     ensures apart { OnOk result (IsApart partition lan.old lan.new) }
     ensures plainly { LinePlainly seats.now line.now progress.old progress.new
         pairs.old pairs.new result }
+    ensures acts { IfOk result (LineActs seats.now line.now progress.old progress.new
+        pairs.old pairs.new) }
 {
     match seat_at(seats, line.unit) {
         Seat::Client(pair) => step_at(pairs, pair, line, progress),
@@ -225,6 +234,8 @@ pub(crate) fn step_unit(
         line.now.verb) }
     ensures plainly { is_call line.now.verb ≡ false → LinePlainly seats.now line.now
         progress.old progress.new pairs.old pairs.new result }
+    ensures acts { is_call line.now.verb ≡ false → IfOk result (LineActs seats.now line.now
+        progress.old progress.new pairs.old pairs.new) }
 {
     match RawCall::of(&line.verb) {
         Some(raw) => make_call(alloc, partition, seats, pairs, lan, &raw),
@@ -249,6 +260,7 @@ fn take_rest_of(pairs: &mut [Pair], pair: usize) -> Result<Moved, NoMemory>
     ensures waits { IfOk result (λ moved. moved ≡ Moved.Quiet →
         IsSomeAnd (slice_get (links_of pairs.new) pair) ClientWaits) }
     ensures plainly { OnOk result (AllRestPlainly pairs.old pairs.new) }
+    ensures acts { OnOk result (AllLead TakesRest pairs.old pairs.new) }
 {
     seat::take_rest(&mut pairs[pair])
 }
@@ -280,6 +292,7 @@ fn take_rest_at(
     ensures ports { IfOk result (λ moved. moved ≡ Moved.Quiet →
         SeatTaken unit seat lan.old lan.new) }
     ensures plainly { OnOk result (AllRestPlainly pairs.old pairs.new) }
+    ensures acts { OnOk result (AllLead TakesRest pairs.old pairs.new) }
 {
     match seat {
         Seat::Client(pair) => take_rest_of(pairs, pair),
@@ -314,6 +327,7 @@ pub(crate) fn take_rest(
     ensures ports { IfOk result (λ moved. moved ≡ Moved.Quiet →
         PortsRest partition seats.now lan.old lan.new) }
     ensures plainly { OnOk result (AllRestPlainly pairs.old pairs.new) }
+    ensures acts { OnOk result (AllLead TakesRest pairs.old pairs.new) }
 {
     let mut moved = Moved::Quiet;
     for k in 0..seats.len() {
@@ -342,6 +356,7 @@ fn fail_of(pairs: &mut [Pair], pair: usize) -> Result<bool, NoMemory>
         opens_if (slice_get pairs.new pair) ≡ 0) }
     ensures others { SameBeside pair pairs.old pairs.new }
     ensures plainly { OnOk result (AllFailPlainly pairs.old pairs.new) }
+    ensures acts { OnOk result (AllLead FailsOnce pairs.old pairs.new) }
 {
     seat::fail(&mut pairs[pair])
 }
@@ -365,6 +380,7 @@ fn fail_at(unit: UnitId, seat: Seat, pairs: &mut [Pair], lan: &mut Lan) -> Resul
     ensures idle { AllSilent lan.old lan.new }
     ensures beside { IsBeside unit lan.old lan.new }
     ensures plainly { OnOk result (AllFailPlainly pairs.old pairs.new) }
+    ensures acts { OnOk result (AllLead FailsOnce pairs.old pairs.new) }
 {
     match seat {
         Seat::Client(pair) => fail_of(pairs, pair),
@@ -397,6 +413,7 @@ pub(crate) fn fail(
     ensures idle { AllSilent lan.old lan.new }
     ensures apart { IsApart partition lan.old lan.new }
     ensures plainly { OnOk result (AllFailPlainly pairs.old pairs.new) }
+    ensures acts { OnOk result (AllLead FailsOnce pairs.old pairs.new) }
 {
     for k in 0..seats.len() {
         let unit = UnitId {

@@ -2,6 +2,7 @@
 ghost use Rattle.std.specs.Prelude.{◌≡◌, ◌≤◌, IfOk, None, OnOk, false};
 ghost use Rattle.boot_text.specs.declared.verb.Verb.TheVariants as verbs;
 ghost use Rattle.vscsi_client.specs.declared.TheConstants.{MIN_PAGES};
+ghost use Rattle.vcpu_run.specs.Acts.{TakesForLine, TakesOnce, TakesRest, acting};
 ghost use Rattle.vcpu_run.specs.Credited.{StepsAgreed, taken_in};
 ghost use Rattle.vcpu_run.specs.DropsShown.{IsFullBy, StepFull};
 ghost use Rattle.vcpu_run.specs.EventsHeard.{Hears, StepHears, lost_by};
@@ -59,6 +60,9 @@ impl Driver {
             TakesPlainly took
             (own_of self.old (C.state crq.old.end) (O.state own.old))
             (own_of self.new (C.state crq.new.end) (O.state own.new))) }
+        ensures acts { IfOk result (λ took. TakesOnce took
+            (acting self.old C.is_shared (C.state crq.old.end) O.is_shared (O.state own.old))
+            (acting self.new C.is_shared (C.state crq.new.end) O.is_shared (O.state own.new))) }
     {
         match self.client.take_answer(crq, own)? {
             Taken::Answer { tag, rsp } => {
@@ -92,6 +96,9 @@ impl Driver {
         ensures plainly { C.is_shared ≡ false → O.is_shared ≡ false → RestsPlainly
             (own_of self.old (C.state crq.old.end) (O.state own.old))
             (own_of self.new (C.state crq.new.end) (O.state own.new)) result }
+        ensures acts { OnOk result (TakesRest
+            (acting self.old C.is_shared (C.state crq.old.end) O.is_shared (O.state own.old))
+            (acting self.new C.is_shared (C.state crq.new.end) O.is_shared (O.state own.new))) }
     {
         let mut moved = Moved::Quiet;
         for _taken in 0..crq.slots() {
@@ -137,6 +144,9 @@ impl Driver {
             StepsPlainly (verbs.Take count) p (stages.Took taken.new)
             (own_of self.old (C.state crq.old.end) (O.state own.old))
             (own_of self.new (C.state crq.new.end) (O.state own.new)) result }
+        ensures acts { IfOk result (TakesForLine count taken.old taken.new
+            (acting self.old C.is_shared (C.state crq.old.end) O.is_shared (O.state own.old))
+            (acting self.new C.is_shared (C.state crq.new.end) O.is_shared (O.state own.new))) }
     {
         if *taken >= count {
             return Ok(Step::Ends(Outcome::Took(*taken)));

@@ -1,7 +1,6 @@
 use Rattle.std.proofs.Common.{◌≡◌, ◌∙◌, List, [], IfSome, IsSome, ap, subst, sym}
 use Rattle.vio_num.specs.declared.history.Served.{Served}
 use Rattle.block_server.specs.DiskLaw.{KeepsDisk}
-use Rattle.vcpu_run.specs.Answered.{AreAnswered}
 use Rattle.vcpu_run.specs.Caused.{RowsAreInForm}
 use Rattle.vcpu_run.specs.OnDisk.{IsServed, LastsInRows}
 use Rattle.vcpu_run.specs.Machines.{IsOfPlan}
@@ -10,10 +9,6 @@ use Rattle.vcpu_run.proofs.Disks.{served_from, served_same, served_somehow, told
 use Rattle.std.proofs.lemmas.Option.{IfSome_then}
 use Rattle.vcpu_run.proofs.Told.{law_of_plan}
 use Rattle.vcpu_run.proofs.machine.settle_plan.Goals as goal
-
-pub settle-requires-clause-answered : goal.settle-requires-clause-answered
-settle-requires-clause-answered g c =
-    subst (λ (rows : List Served). AreAnswered rows c.in-Ok.machine.pairs.items) (sym c.in-Ok.ensures.none) c.in-Ok.ensures.answered
 
 pub returns-in-Ok-clause-law : goal.returns-in-Ok-clause-law
 returns-in-Ok-clause-law g c =

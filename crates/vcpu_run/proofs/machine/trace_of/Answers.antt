@@ -18,14 +18,16 @@ returns-in-Ok-clause-law c =
     let tells = subst (λ r. OnOk r (PortsEnd c.args.lan c.args.scripts.items)) c.in-Ok.is c.requires.told in
     let over = subst (λ r. OnOk r (All IsOver c.args.scripts.items)) c.in-Ok.is c.requires.over in
     let rests = subst (λ r. OnOk r (AreAtRest c.args.copies.items c.args.grants.items c.args.history.items c.args.pairs.items c.args.scripts.items)) c.in-Ok.is c.requires.rests in
-    law_told c.gather.result c.ok.result c.args.pairs.items c.args.scripts.items c.args.lan.seats c.args.history.items c.args.copies.items c.args.grants.items c.ok.ensures.value
-    told.order told.queues told.copies told.records over told.credits credited told.logged told.refusals said told.answers c.requires.answered told.ports c.args.lan told.told tells told.settled told.handed told.intake told.requests told.given told.whole told.copied told.explained told.logins told.dealt told.called rests
+    law_told c.gather.result c.ok.result c.args.pairs.items c.args.scripts.items c.args.lan c.args.history.items c.args.copies.items c.args.grants.items c.ok.ensures.value
+    over credited said c.requires.answered tells rests told.order told.lawful told.lines told.refusals told.answers told.rests told.logins
 
 pub returns-in-Ok-clause-serves : goal.returns-in-Ok-clause-serves
 returns-in-Ok-clause-serves c = served_told c.gather.result c.ok.result c.args.history.items c.ok.ensures.value c.gather.ensures.serves
 
 pub returns-in-Ok-clause-shown : goal.returns-in-Ok-clause-shown
-returns-in-Ok-clause-shown c = said_told c.gather.result c.ok.result _ c.ok.ensures.value c.gather.ensures.shown
+returns-in-Ok-clause-shown c =
+    said_told c.gather.result c.ok.result _ c.ok.ensures.value
+    (each_told c.gather.result _ _ (λ trace lawful partitions of_plan. (lawful partitions of_plan).shown) c.gather.ensures.lawful)
 
 pub returns-in-Ok-clause-grants : goal.returns-in-Ok-clause-grants
 returns-in-Ok-clause-grants c = said_told c.gather.result c.ok.result _ c.ok.ensures.value c.gather.ensures.grants

@@ -1,7 +1,8 @@
 use Rattle.vcpu_run.proofs.Resting.{quiet_set}
 use Rattle.std.proofs.Common.{refl, slice_index_or}
 use Rattle.std.proofs.lemmas.Option.{slice_get-get_or}
-use Rattle.vcpu_run.proofs.Elsewhere.{credits_turned, else_none, ok_two, ok_then}
+use Rattle.vcpu_run.proofs.Elsewhere.{credits_turned, else_none, ok_then}
+use Rattle.vcpu_run.proofs.Going.{ok_five}
 use Rattle.vcpu_run.proofs.Keeping.{all_same}
 use Rattle.vcpu_run.proofs.Driving.{get_set_other}
 use Rattle.vcpu_run.proofs.Held.{queues_turned}
@@ -27,19 +28,28 @@ returns-clause-run c =
     run_one scripts c.args.number (slice_index_or scripts c.args.number d) c.end_waiting.new.self
     (slice_get-get_or scripts c.args.number d c.requires) c.end_waiting.ensures.rest
 
-pub returns-clause-credited : goal.returns-clause-credited
-returns-clause-credited c =
+pub returns-clause-keeps : goal.returns-clause-keeps
+returns-clause-keeps c =
     let scripts = c.args.scripts.now in
     let d = c.index-scripts-number.result in
     let old = slice_index_or scripts c.args.number d in
+    let new = c.end_waiting.new.self in
     let found = slice_get-get_or scripts c.args.number d c.requires in
-    ok_then c.end_waiting.result _ _
-    (λ kept pairs ports scripts_are copies made are.
-    credits_turned copies pairs pairs ports scripts c.args.number old c.end_waiting.new.self found scripts_are (else_none old.seats.items pairs) are (
-      kept.0 pairs (scripts_are c.args.number old found).script_is (are c.args.number old found).0,
-      kept.1 pairs (scripts_are c.args.number old found).script_is copies made (are c.args.number old found).1,
-    ))
-    (ok_two c.end_waiting.result _ _ c.end_waiting.ensures.credited c.end_waiting.ensures.logged)
+    let rest = c.end_waiting.ensures.rest in
+    ok_five c.end_waiting.result _ _ _ _ _ _
+    (λ credited logged said told unfreed pairs ports scripts_are.
+    let is = (scripts_are c.args.number old found).script_is in
+    record {
+      credited = λ copies made are.
+          credits_turned copies pairs pairs ports scripts c.args.number old new found scripts_are (else_none old.seats.items pairs) are
+          (credited pairs is (are c.args.number old found).0, logged pairs is copies made (are c.args.number old found).1);
+      said = λ out are. told_ended pairs scripts c.args.number old new found rest (said pairs is) out are;
+      told = λ lan tells. ports_ended lan scripts c.args.number new tells (told pairs lan is (tells c.args.number old found));
+      unfreed = λ opens.
+          queues_turned pairs pairs ports scripts c.args.number old new found scripts_are (else_none old.seats.items pairs) rest
+          (λ behind. unfreed pairs is (opens c.args.number old refl found behind));
+    })
+    c.end_waiting.ensures.credited c.end_waiting.ensures.logged c.end_waiting.ensures.said c.end_waiting.ensures.told c.end_waiting.ensures.unfreed
 
 pub returns-clause-quiet : goal.returns-clause-quiet
 returns-clause-quiet c =
@@ -47,40 +57,6 @@ returns-clause-quiet c =
     let d = c.index-scripts-number.result in
     quiet_set scripts c.args.number (slice_index_or scripts c.args.number d) c.end_waiting.new.self c.end_waiting.result
     (slice_get-get_or scripts c.args.number d c.requires) c.end_waiting.ensures.quiet
-
-pub returns-clause-told : goal.returns-clause-told
-returns-clause-told c =
-    let scripts = c.args.scripts.now in
-    let d = c.index-scripts-number.result in
-    let old = slice_index_or scripts c.args.number d in
-    let found = slice_get-get_or scripts c.args.number d c.requires in
-    ok_then c.end_waiting.result _ _
-    (λ kept pairs ports lan scripts_are tells.
-    ports_ended lan scripts c.args.number c.end_waiting.new.self tells (kept pairs lan (scripts_are c.args.number old found).script_is (tells c.args.number old found)))
-    c.end_waiting.ensures.told
-
-pub returns-clause-said : goal.returns-clause-said
-returns-clause-said c =
-    let scripts = c.args.scripts.now in
-    let d = c.index-scripts-number.result in
-    let old = slice_index_or scripts c.args.number d in
-    let found = slice_get-get_or scripts c.args.number d c.requires in
-    ok_then c.end_waiting.result _ _
-    (λ kept pairs ports scripts_are out told.
-    told_ended pairs scripts c.args.number old c.end_waiting.new.self found c.end_waiting.ensures.rest (kept pairs (scripts_are c.args.number old found).script_is) out told)
-    c.end_waiting.ensures.said
-
-pub returns-clause-unfreed : goal.returns-clause-unfreed
-returns-clause-unfreed c =
-    let scripts = c.args.scripts.now in
-    let d = c.index-scripts-number.result in
-    let old = slice_index_or scripts c.args.number d in
-    let found = slice_get-get_or scripts c.args.number d c.requires in
-    ok_then c.end_waiting.result _ _
-    (λ kept pairs ports scripts_are opens.
-    queues_turned pairs pairs ports scripts c.args.number old c.end_waiting.new.self found scripts_are (else_none old.seats.items pairs) c.end_waiting.ensures.rest
-    (λ behind. kept pairs (scripts_are c.args.number old found).script_is (opens c.args.number old refl found behind)))
-    c.end_waiting.ensures.unfreed
 
 pub returns-clause-elsewhere : goal.returns-clause-elsewhere
 returns-clause-elsewhere c = λ i apart. get_set_other c.args.scripts.now c.args.number i c.end_waiting.new.self apart

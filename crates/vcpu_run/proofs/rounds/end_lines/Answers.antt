@@ -6,7 +6,14 @@ use Rattle.vcpu_run.proofs.PlainRuns.{awaits_next}
 use Rattle.vcpu_run.proofs.rounds.end_lines.Goals as goal
 
 pub loop-number-init : goal.loop-number-init
-loop-number-init c = record { scripts = λ pairs ports are. are; run = run_same c.args.scripts.now; credited = λ pairs ports scripts_are copies made are. are; said = λ pairs ports scripts_are out are. are; rest = λ i more. refl; told = λ pairs ports lan scripts_are tells. tells; same = λ is. refl; plainly = λ granted home books pairs ports scripts_are none are. are; unfreed = λ pairs ports scripts_are opens keep. keep }
+loop-number-init c = record {
+  scripts = λ pairs ports are. are;
+  run = run_same c.args.scripts.now;
+  keeps = λ pairs ports is. record { credited = λ copies made are. are; said = λ out are. are; told = λ lan tells. tells; unfreed = λ opens keep. keep };
+  rest = λ i more. refl;
+  plainly = λ granted home books pairs ports scripts_are none are. are;
+  same = λ is. refl;
+}
 
 pub loop-number-preserved : goal.loop-number-preserved
 loop-number-preserved c =
@@ -15,15 +22,16 @@ loop-number-preserved c =
     record {
       scripts = λ pairs ports are. after.scripts pairs ports (before.scripts pairs ports are);
       run = run_then c.args.scripts.now c.loop-number.scripts c.end_line_at.new.scripts before.run after.run;
-      credited = λ pairs ports scripts_are copies made are. c.in_ok-turned.ensures.credited pairs ports (before.scripts pairs ports scripts_are) copies made (before.credited pairs ports scripts_are copies made are);
-      said = λ pairs ports scripts_are out are.
-          c.in_ok-turned.ensures.said pairs ports (before.scripts pairs ports scripts_are)
-          (out_next pairs c.args.scripts.now c.loop-number.scripts c.loop-number.number before.rest out) (before.said pairs ports scripts_are out are);
+      keeps = λ pairs ports is.
+          let first = before.keeps pairs ports is in
+          let next = c.in_ok-turned.ensures.keeps pairs ports (before.scripts pairs ports is) in
+          record {
+            credited = λ copies made are. next.credited copies made (first.credited copies made are);
+            said = λ out are. next.said (out_next pairs c.args.scripts.now c.loop-number.scripts c.loop-number.number before.rest out) (first.said out are);
+            told = λ lan tells. next.told lan (first.told lan tells);
+            unfreed = λ opens keep. next.unfreed (open_next pairs c.args.scripts.now c.loop-number.scripts c.loop-number.number before.rest before.run opens) (first.unfreed opens keep);
+          };
       rest = λ i more. after.elsewhere i (λ same. omega (arith, more, same)) ∙ before.rest i (omega (arith, more));
-      told = λ pairs ports lan scripts_are tells. c.in_ok-turned.ensures.told pairs ports lan (before.scripts pairs ports scripts_are) (before.told pairs ports lan scripts_are tells);
-      unfreed = λ pairs ports scripts_are opens keep.
-          c.in_ok-turned.ensures.unfreed pairs ports (before.scripts pairs ports scripts_are)
-          (open_next pairs c.args.scripts.now c.loop-number.scripts c.loop-number.number before.rest before.run opens) (before.unfreed pairs ports scripts_are opens keep);
       plainly = λ granted home books pairs ports scripts_are none are.
           c.in_ok-turned.ensures.plainly granted home books pairs ports (before.scripts pairs ports scripts_are)
           (awaits_next c.args.scripts.now c.loop-number.scripts c.loop-number.number before.rest none) (before.plainly granted home books pairs ports scripts_are none are);

@@ -1,5 +1,5 @@
 use Rattle.vcpu_run.proofs.Waiting.{linked_driven}
-use Rattle.vcpu_run.proofs.Resting.{ok_more}
+use Rattle.vcpu_run.proofs.Going.{if_five}
 use Rattle.vcpu_run.proofs.Idling.{set_rests}
 use Rattle.vcpu_run.proofs.Driving.{get_set_other}
 use Rattle.std.proofs.Common.{◌≡◌, IsSomeAnd, false, slice_index_or, refl, subst}
@@ -32,7 +32,14 @@ turn-requires-clause-ports c =
     (c.requires.scripts c.args.number (slice_index_or scripts c.args.number d) (slice_get-get_or scripts c.args.number d c.requires.there)).has_ports
 
 pub returns-clause-pairs : goal.returns-clause-pairs
-returns-clause-pairs c home copies = pairs_driven home copies c.args.pairs.now c.turn.new.pairs c.turn.ensures.driven
+returns-clause-pairs c = record {
+  pairs = λ home copies. pairs_driven home copies c.args.pairs.now c.turn.new.pairs c.turn.ensures.driven;
+  linked = λ units. linked_driven units c.args.pairs.now c.turn.new.pairs c.turn.ensures.driven;
+  answered = λ history. answered_driven history c.args.pairs.now c.turn.new.pairs c.turn.ensures.driven;
+  received = λ units copies grants history. received_driven units copies grants history c.args.pairs.now c.turn.new.pairs c.turn.ensures.driven;
+  tells = λ copies told. tells_driven told copies c.args.pairs.now c.turn.new.pairs c.turn.ensures.driven;
+  heard = λ size partition units records copies. heard_driven size partition units records copies c.args.pairs.now c.turn.new.pairs c.turn.ensures.driven;
+}
 
 pub returns-clause-drivers : goal.returns-clause-drivers
 returns-clause-drivers c = drivers_driven c.args.pairs.now c.turn.new.pairs c.turn.ensures.driven c.requires.drivers
@@ -45,15 +52,15 @@ returns-clause-scripts c =
     (slice_get-get_or scripts c.args.number d c.requires.there)
     (driven_stay c.args.pairs.now c.turn.new.pairs c.turn.ensures.driven) c.turn.ensures.rest c.turn.ensures.script c.requires.scripts)
 
-pub returns-clause-stay : goal.returns-clause-stay
-returns-clause-stay c = driven_stay c.args.pairs.now c.turn.new.pairs c.turn.ensures.driven
-
-pub returns-clause-run : goal.returns-clause-run
-returns-clause-run c =
+pub returns-clause-stays : goal.returns-clause-stays
+returns-clause-stays c =
     let scripts = c.args.scripts.now in
     let d = c.index-scripts-number.result in
-    run_one scripts c.args.number (slice_index_or scripts c.args.number d) c.turn.new.self
-    (slice_get-get_or scripts c.args.number d c.requires.there) c.turn.ensures.rest
+    record {
+      stay = driven_stay c.args.pairs.now c.turn.new.pairs c.turn.ensures.driven;
+      run = run_one scripts c.args.number (slice_index_or scripts c.args.number d) c.turn.new.self (slice_get-get_or scripts c.args.number d c.requires.there) c.turn.ensures.rest;
+      seats = c.turn.ensures.lan;
+    }
 
 pub returns-clause-credited : goal.returns-clause-credited
 returns-clause-credited c =
@@ -67,24 +74,6 @@ returns-clause-credited c =
     (kept.0 (are c.args.number old found).0, kept.1 copies made (are c.args.number old found).1))
     (ok_two c.turn.result _ _ c.turn.ensures.credited c.turn.ensures.logged)
 
-pub returns-clause-answered : goal.returns-clause-answered
-returns-clause-answered c history = answered_driven history c.args.pairs.now c.turn.new.pairs c.turn.ensures.driven
-
-pub returns-clause-received : goal.returns-clause-received
-returns-clause-received c units copies grants history = received_driven units copies grants history c.args.pairs.now c.turn.new.pairs c.turn.ensures.driven
-
-pub returns-clause-linked : goal.returns-clause-linked
-returns-clause-linked c units = linked_driven units c.args.pairs.now c.turn.new.pairs c.turn.ensures.driven
-
-pub returns-clause-idle : goal.returns-clause-idle
-returns-clause-idle c =
-    let scripts = c.args.scripts.now in
-    let old = slice_index_or scripts c.args.number c.index-scripts-number.result in
-    ok_more c.turn.result _ _
-    (λ moved rests is over.
-    set_rests scripts c.args.number old c.turn.new.self old.seats.items c.args.pairs.now c.turn.new.pairs c.requires.there (rw c.turn.ensures.rest.seats refl) (rests is) over)
-    c.turn.ensures.quiet
-
 pub returns-clause-elsewhere : goal.returns-clause-elsewhere
 returns-clause-elsewhere c = λ i apart. get_set_other c.args.scripts.now c.args.number i c.turn.new.self apart
 
@@ -96,18 +85,6 @@ returns-clause-unfreed c =
     (λ kept. queues_turned c.args.pairs.now c.turn.new.pairs c.args.lan.now.seats scripts c.args.number (slice_index_or scripts c.args.number d) c.turn.new.self
     (slice_get-get_or scripts c.args.number d c.requires.there) c.requires.scripts c.turn.ensures.others c.turn.ensures.rest (λ behind. kept))
     c.turn.ensures.unfreed
-
-pub returns-clause-opened : goal.returns-clause-opened
-returns-clause-opened c =
-    let scripts = c.args.scripts.now in
-    let d = c.index-scripts-number.result in
-    let old = slice_index_or scripts c.args.number d in
-    let found = slice_get-get_or scripts c.args.number d c.requires.there in
-    ok_more c.turn.result _ _
-    (λ moved held is plain before.
-    open_turned c.args.pairs.now c.turn.new.pairs c.args.lan.now.seats scripts c.args.number old c.turn.new.self found c.requires.scripts c.turn.ensures.others c.turn.ensures.rest
-    (subst (λ o. IsSomeAnd o (λ script. are_servers script.seats.items ≡ false)) found plain) (held is) before)
-    c.turn.ensures.opened
 
 pub returns-clause-told : goal.returns-clause-told
 returns-clause-told c =
@@ -129,33 +106,6 @@ returns-clause-said c =
     told_turned c.args.pairs.now c.turn.new.pairs c.args.lan.now.seats scripts c.args.number old c.turn.new.self found c.requires.scripts c.turn.ensures.others c.turn.ensures.rest kept told)
     c.turn.ensures.said
 
-pub returns-clause-out : goal.returns-clause-out
-returns-clause-out c =
-    let scripts = c.args.scripts.now in
-    let d = c.index-scripts-number.result in
-    let old = slice_index_or scripts c.args.number d in
-    let found = slice_get-get_or scripts c.args.number d c.requires.there in
-    ok_more c.turn.result _ _
-    (λ moved quiet is told out.
-    out_turned c.args.pairs.now c.turn.new.pairs c.args.lan.now.seats scripts c.args.number old c.turn.new.self found c.requires.scripts c.turn.ensures.others c.turn.ensures.rest (quiet is) told out)
-    c.turn.ensures.out
-
-pub returns-clause-heard : goal.returns-clause-heard
-returns-clause-heard c size partition units records copies = heard_driven size partition units records copies c.args.pairs.now c.turn.new.pairs c.turn.ensures.driven
-
-pub returns-clause-tells : goal.returns-clause-tells
-returns-clause-tells c copies told = tells_driven told copies c.args.pairs.now c.turn.new.pairs c.turn.ensures.driven
-
-pub returns-clause-ports : goal.returns-clause-ports
-returns-clause-ports c =
-    let scripts = c.args.scripts.now in
-    let old = slice_index_or scripts c.args.number c.index-scripts-number.result in
-    ok_more c.turn.result _ _
-    (λ moved rests is over.
-    set_ports scripts c.args.number c.turn.new.self old.partition old.seats.items c.args.lan.now c.turn.new.lan c.requires.there
-    (rw c.turn.ensures.rest.partition refl) (rw c.turn.ensures.rest.seats refl) (rests is) over)
-    c.turn.ensures.ports
-
 pub returns-clause-plainly : goal.returns-clause-plainly
 returns-clause-plainly c =
     let scripts = c.args.scripts.now in
@@ -168,14 +118,28 @@ returns-clause-plainly c =
     c.turn.ensures.others c.turn.ensures.rest (subst (λ o. IsSomeAnd o (λ script. are_servers script.seats.items ≡ false)) found other) turns is)
     c.turn.ensures.plainly
 
-pub returns-clause-quietly : goal.returns-clause-quietly
-returns-clause-quietly c =
+pub returns-clause-quiet : goal.returns-clause-quiet
+returns-clause-quiet c =
+    let pairs = c.args.pairs.now in
+    let pairs' = c.turn.new.pairs in
+    let seats = c.args.lan.now.seats in
     let scripts = c.args.scripts.now in
     let d = c.index-scripts-number.result in
     let old = slice_index_or scripts c.args.number d in
+    let new = c.turn.new.self in
     let found = slice_get-get_or scripts c.args.number d c.requires.there in
-    ok_more c.turn.result _ _
-    (λ moved quiets is granted home books other plain quiet.
-    quieted_plainly granted home c.args.number books c.args.pairs.now c.turn.new.pairs scripts old c.turn.new.self found c.turn.ensures.rest
-    (subst (λ o. IsSomeAnd o (λ script. are_servers script.seats.items ≡ false)) found other) (quiets is) plain quiet)
-    c.turn.ensures.quiets
+    let rest = c.turn.ensures.rest in
+    if_five c.turn.result _ _ _ _ _ _
+    (λ moved held out rests ports quiets is. record {
+      opened = λ plain before.
+          open_turned pairs pairs' seats scripts c.args.number old new found c.requires.scripts c.turn.ensures.others rest
+          (subst (λ o. IsSomeAnd o (λ script. are_servers script.seats.items ≡ false)) found plain) (held is) before;
+      out = λ told before. out_turned pairs pairs' seats scripts c.args.number old new found c.requires.scripts c.turn.ensures.others rest (out is) told before;
+      idle = λ over. set_rests scripts c.args.number old new old.seats.items pairs pairs' c.requires.there (rw rest.seats refl) (rests is) over;
+      ports = λ over. set_ports scripts c.args.number new old.partition old.seats.items c.args.lan.now c.turn.new.lan c.requires.there
+          (rw rest.partition refl) (rw rest.seats refl) (ports is) over;
+      quietly = λ granted home books other plain quiet.
+          quieted_plainly granted home c.args.number books pairs pairs' scripts old new found rest
+          (subst (λ o. IsSomeAnd o (λ script. are_servers script.seats.items ≡ false)) found other) (quiets is) plain quiet;
+    })
+    c.turn.ensures.opened c.turn.ensures.out c.turn.ensures.quiet c.turn.ensures.ports c.turn.ensures.quiets

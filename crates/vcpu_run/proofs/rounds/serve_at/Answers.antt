@@ -20,7 +20,8 @@ use Rattle.vcpu_run.proofs.DropsKept.{more_served}
 use Rattle.vcpu_run.proofs.Listed.{each_on, each_set}
 use Rattle.vcpu_run.proofs.PairNames.{apart_stays}
 use Rattle.vcpu_run.proofs.Unfreed.{frees_set}
-use Rattle.vcpu_run.specs.PlainPairs.{ServesPlainly, ServesPlainlyAt, books_of}
+use Rattle.vcpu_run.specs.PlainPairs.{ServesPlainly, ServesPlainlyAt}
+use Rattle.vcpu_run.specs.Served.{books_in}
 use Rattle.vcpu_run.proofs.PlainRounds.{idled_at, served_at}
 use Rattle.vcpu_run.proofs.rounds.serve_at.Goals as goal
 
@@ -41,7 +42,7 @@ returns-clause-serving g c =
     record {
       each = after.units ∙ (before.each ∙ sym count);
       few = subst (λ n. n ≤ 8) (sym count) before.few;
-      pairs_are = rw after.partition (each_set (IsPair c.args.server.now.partition c.serve.new.server.copies.items) pairs c.args.unit c.serve.new.self
+      pairs_are = rw after.lasts.partition (each_set (IsPair c.args.server.now.partition c.serve.new.server.copies.items) pairs c.args.unit c.serve.new.self
           (λ k other there apart. (after.beside k apart).pair other
           (λ unit has has_other. apart (before.apart k c.args.unit other old unit there here has_other has)) (before.pairs_are k other there)) after.pair);
       apart = apart_stays pairs (slice_set pairs c.args.unit c.serve.new.self)
@@ -49,43 +50,45 @@ returns-clause-serving g c =
             count = count;
             each = each_on Stays pairs c.args.unit old c.serve.new.self stays_same here after.stays;
             sees = each_on (λ (a b : Pair). Sees (seen_at a) (seen_at b)) pairs c.args.unit old c.serve.new.self (λ pair. sees_same (seen_at pair)) here
-                (serve_sees old c.serve.new.self after.shows.window after.client.sent);
-            values = each_on KeepsEntries pairs c.args.unit old c.serve.new.self entries_same here after.shows.window.values;
+                (serve_sees old c.serve.new.self after.leaves.shows.window after.leaves.client.sent);
+            values = each_on KeepsEntries pairs c.args.unit old c.serve.new.self entries_same here after.leaves.shows.window.values;
           }) before.apart;
     }
 
-pub returns-clause-stay : goal.returns-clause-stay
-returns-clause-stay g c =
+pub returns-clause-served : goal.returns-clause-served
+returns-clause-served g c = record {
+  answered =
+      let pairs = c.args.pairs.now in
+      each_set (λ (k : ℕ) (other : Pair). IsAnswered c.serve.new.server.records.history.items other) pairs c.args.unit c.serve.new.self
+      (λ k other there apart. (c.serve.ensures.beside k apart).answered other (c.requires.serving.pairs_are k other there).server (c.requires.served.answered k other there))
+      c.serve.ensures.served.answered;
+  received =
+      let server = c.serve.new.server in
+      each_set (IsReceived server.units.items server.copies.items server.records.grants.items server.records.history.items) c.args.pairs.now c.args.unit c.serve.new.self
+      (λ k other there apart.
+      let is = c.requires.serving.pairs_are k other there in
+      (c.serve.ensures.beside k apart).received other (is.own_unit ∙ is.server) (c.requires.served.received k other there))
+      c.serve.ensures.served.received;
+  heard =
+      let server = c.args.server.now in
+      let server' = c.serve.new.server in
+      let pairs = c.args.pairs.now in
+      let old = slice_index_or pairs c.args.unit c.index-pairs-unit.result in
+      heard_set server.disk.count server'.disk.count server.partition server'.partition server.units.items server'.units.items server.records server'.records server.copies.items server'.copies.items
+      pairs c.args.unit old c.serve.new.self (slice_get-get_or pairs c.args.unit c.index-pairs-unit.result c.requires.there) c.serve.ensures.leaves.shows c.serve.ensures.stays.own_unit
+      (λ told tells. (c.serve.ensures.told told tells).all) (λ told tells. (c.serve.ensures.told told tells).own)
+      (λ told k other found apart order is.
+      let pair = c.requires.serving.pairs_are k other found in
+      (c.serve.ensures.beside k apart).told told other (pair.own_unit ∙ pair.server) order is)
+      c.requires.served.heard;
+}
+
+pub serve-requires-clause-served : goal.serve-requires-clause-served
+serve-requires-clause-served g c =
     let pairs = c.args.pairs.now in
     let old = slice_index_or pairs c.args.unit c.index-pairs-unit.result in
-    record {
-      count = length-set pairs c.args.unit c.serve.new.self;
-      each = each_on Stays pairs c.args.unit old c.serve.new.self stays_same
-          (slice_get-get_or pairs c.args.unit c.index-pairs-unit.result c.requires.there) c.serve.ensures.stays;
-      sees = each_on (λ (a b : Pair). Sees (seen_at a) (seen_at b)) pairs c.args.unit old c.serve.new.self (λ pair. sees_same (seen_at pair))
-          (slice_get-get_or pairs c.args.unit c.index-pairs-unit.result c.requires.there)
-          (serve_sees old c.serve.new.self c.serve.ensures.shows.window c.serve.ensures.client.sent);
-      values = each_on KeepsEntries pairs c.args.unit old c.serve.new.self entries_same
-          (slice_get-get_or pairs c.args.unit c.index-pairs-unit.result c.requires.there) c.serve.ensures.shows.window.values;
-    }
-
-pub returns-clause-drivers : goal.returns-clause-drivers
-returns-clause-drivers g c =
-    let pairs = c.args.pairs.now in
-    set_same pairs c.args.unit (slice_index_or pairs c.args.unit c.index-pairs-unit.result) c.serve.new.self
-    (slice_get-get_or pairs c.args.unit c.index-pairs-unit.result c.requires.there) c.serve.ensures.driver
-
-pub returns-clause-answered : goal.returns-clause-answered
-returns-clause-answered g c =
-    let pairs = c.args.pairs.now in
-    each_set (λ (k : ℕ) (other : Pair). IsAnswered c.serve.new.server.records.history.items other) pairs c.args.unit c.serve.new.self
-    (λ k other there apart. (c.serve.ensures.beside k apart).answered other (c.requires.serving.pairs_are k other there).server (c.requires.answered k other there))
-    c.serve.ensures.answered
-
-pub serve-requires-clause-answered : goal.serve-requires-clause-answered
-serve-requires-clause-answered g c =
-    let pairs = c.args.pairs.now in
-    c.requires.answered c.args.unit (slice_index_or pairs c.args.unit c.index-pairs-unit.result) (slice_get-get_or pairs c.args.unit c.index-pairs-unit.result c.requires.there)
+    let there = slice_get-get_or pairs c.args.unit c.index-pairs-unit.result c.requires.there in
+    record { answered = c.requires.served.answered c.args.unit old there; received = c.requires.served.received c.args.unit old there }
 
 pub returns-clause-linked : goal.returns-clause-linked
 returns-clause-linked g c =
@@ -106,80 +109,72 @@ returns-clause-waits g c =
     (λ moved wait is are. waits_set (ServerWaits (slice_get c.serve.new.server.units.items c.args.unit)) pairs c.args.unit c.serve.new.self c.requires.there (wait is (are c.args.unit old found)))
     c.serve.ensures.quiet
 
-pub returns-clause-elsewhere : goal.returns-clause-elsewhere
-returns-clause-elsewhere g c = λ k apart. get_set_other c.args.pairs.now c.args.unit k c.serve.new.self apart
+pub returns-clause-goes : goal.returns-clause-goes
+returns-clause-goes g c = record {
+  lasts = c.serve.ensures.lasts;
+  causes = λ told tells.
+      let pairs = c.args.pairs.now in
+      let there = slice_get-get_or pairs c.args.unit c.index-pairs-unit.result c.requires.there in
+      let before = tells_before told c.args.server.now.copies.items c.serve.new.server.copies.items pairs c.args.unit (slice_index_or pairs c.args.unit c.index-pairs-unit.result) c.serve.new.self there
+      c.serve.ensures.leaves.shows c.serve.ensures.stays.own_unit tells in
+      (before, (c.serve.ensures.told told (tells c.args.unit c.serve.new.self (get_set_same pairs c.args.unit c.serve.new.self c.requires.there))).causes (c.requires.served.heard.all told before).order);
+}
 
-pub serve-requires-clause-received : goal.serve-requires-clause-received
-serve-requires-clause-received g c =
-    let pairs = c.args.pairs.now in
-    c.requires.received c.args.unit (slice_index_or pairs c.args.unit c.index-pairs-unit.result) (slice_get-get_or pairs c.args.unit c.index-pairs-unit.result c.requires.there)
+pub returns-clause-spares : goal.returns-clause-spares
+returns-clause-spares g c = record {
+  copies = c.serve.ensures.leaves.shows.made;
+  stay =
+      let pairs = c.args.pairs.now in
+      let old = slice_index_or pairs c.args.unit c.index-pairs-unit.result in
+      record {
+        count = length-set pairs c.args.unit c.serve.new.self;
+        each = each_on Stays pairs c.args.unit old c.serve.new.self stays_same
+            (slice_get-get_or pairs c.args.unit c.index-pairs-unit.result c.requires.there) c.serve.ensures.stays;
+        sees = each_on (λ (a b : Pair). Sees (seen_at a) (seen_at b)) pairs c.args.unit old c.serve.new.self (λ pair. sees_same (seen_at pair))
+            (slice_get-get_or pairs c.args.unit c.index-pairs-unit.result c.requires.there)
+            (serve_sees old c.serve.new.self c.serve.ensures.leaves.shows.window c.serve.ensures.leaves.client.sent);
+        values = each_on KeepsEntries pairs c.args.unit old c.serve.new.self entries_same
+            (slice_get-get_or pairs c.args.unit c.index-pairs-unit.result c.requires.there) c.serve.ensures.leaves.shows.window.values;
+      };
+  drivers =
+      let pairs = c.args.pairs.now in
+      set_same pairs c.args.unit (slice_index_or pairs c.args.unit c.index-pairs-unit.result) c.serve.new.self
+      (slice_get-get_or pairs c.args.unit c.index-pairs-unit.result c.requires.there) c.serve.ensures.driver;
+  clients =
+      let pairs = c.args.pairs.now in
+      clients_set pairs c.args.unit (slice_index_or pairs c.args.unit c.index-pairs-unit.result) c.serve.new.self
+      (slice_get-get_or pairs c.args.unit c.index-pairs-unit.result c.requires.there)
+      (record {
+        driver = c.serve.ensures.driver;
+        pages = c.serve.ensures.stays.pages;
+        queue = c.serve.ensures.leaves.client.queue;
+        taken = c.serve.ensures.leaves.client.taken;
+        unit = c.serve.ensures.stays.client_unit;
+        sees = serve_sees (slice_index_or pairs c.args.unit c.index-pairs-unit.result) c.serve.new.self c.serve.ensures.leaves.shows.window c.serve.ensures.leaves.client.sent;
+        own = c.serve.ensures.leaves.owner;
+        server = c.serve.ensures.stays.server;
+        values = c.serve.ensures.leaves.values;
+        puts = more_served (slice_index_or pairs c.args.unit c.index-pairs-unit.result) c.serve.new.self c.serve.ensures.leaves.client.sent c.serve.ensures.leaves.client.full c.serve.ensures.leaves.client.served;
+        calm = served_calm (slice_index_or pairs c.args.unit c.index-pairs-unit.result) c.serve.new.self c.serve.ensures.leaves.client.sent c.serve.ensures.leaves.client.kept;
+      });
+  stays =
+      let pairs = c.args.pairs.now in
+      frees_set _ pairs c.args.unit (slice_index_or pairs c.args.unit c.index-pairs-unit.result) c.serve.new.self (slice_get-get_or pairs c.args.unit c.index-pairs-unit.result c.requires.there)
+      (λ always. c.serve.ensures.leaves.client.unfreed);
+}
 
-pub returns-clause-received : goal.returns-clause-received
-returns-clause-received g c =
-    let server = c.serve.new.server in
-    each_set (IsReceived server.units.items server.copies.items server.records.grants.items server.records.history.items) c.args.pairs.now c.args.unit c.serve.new.self
-    (λ k other there apart.
-    let is = c.requires.serving.pairs_are k other there in
-    (c.serve.ensures.beside k apart).received other (is.own_unit ∙ is.server) (c.requires.received k other there))
-    c.serve.ensures.received
-
-pub returns-clause-stays : goal.returns-clause-stays
-returns-clause-stays g c =
-    let pairs = c.args.pairs.now in
-    frees_set _ pairs c.args.unit (slice_index_or pairs c.args.unit c.index-pairs-unit.result) c.serve.new.self (slice_get-get_or pairs c.args.unit c.index-pairs-unit.result c.requires.there)
-    (λ always. c.serve.ensures.client.unfreed)
-
-pub returns-clause-clients : goal.returns-clause-clients
-returns-clause-clients g c =
-    let pairs = c.args.pairs.now in
-    clients_set pairs c.args.unit (slice_index_or pairs c.args.unit c.index-pairs-unit.result) c.serve.new.self
-    (slice_get-get_or pairs c.args.unit c.index-pairs-unit.result c.requires.there)
-    (record {
-      driver = c.serve.ensures.driver;
-      pages = c.serve.ensures.stays.pages;
-      queue = c.serve.ensures.client.queue;
-      taken = c.serve.ensures.client.taken;
-      unit = c.serve.ensures.stays.client_unit;
-      sees = serve_sees (slice_index_or pairs c.args.unit c.index-pairs-unit.result) c.serve.new.self c.serve.ensures.shows.window c.serve.ensures.client.sent;
-      own = c.serve.ensures.owner;
-      server = c.serve.ensures.stays.server;
-      values = c.serve.ensures.values;
-      puts = more_served (slice_index_or pairs c.args.unit c.index-pairs-unit.result) c.serve.new.self c.serve.ensures.client.sent c.serve.ensures.client.full c.serve.ensures.client.served;
-      calm = served_calm (slice_index_or pairs c.args.unit c.index-pairs-unit.result) c.serve.new.self c.serve.ensures.client.sent c.serve.ensures.client.kept;
-    })
-
-pub returns-clause-heard : goal.returns-clause-heard
-returns-clause-heard g c =
-    let server = c.args.server.now in
-    let server' = c.serve.new.server in
-    let pairs = c.args.pairs.now in
-    let old = slice_index_or pairs c.args.unit c.index-pairs-unit.result in
-    heard_set server.disk.count server'.disk.count server.partition server'.partition server.units.items server'.units.items server.records server'.records server.copies.items server'.copies.items
-    pairs c.args.unit old c.serve.new.self (slice_get-get_or pairs c.args.unit c.index-pairs-unit.result c.requires.there) c.serve.ensures.shows c.serve.ensures.own
-    (λ told tells. (c.serve.ensures.told told tells).all) (λ told tells. (c.serve.ensures.told told tells).own)
-    (λ told k other found apart order is.
-    let pair = c.requires.serving.pairs_are k other found in
-    (c.serve.ensures.beside k apart).told told other (pair.own_unit ∙ pair.server) order is)
-    c.requires.heard
-
-pub returns-clause-causes : goal.returns-clause-causes
-returns-clause-causes g c = λ told tells.
-    let pairs = c.args.pairs.now in
-    let there = slice_get-get_or pairs c.args.unit c.index-pairs-unit.result c.requires.there in
-    let before = tells_before told c.args.server.now.copies.items c.serve.new.server.copies.items pairs c.args.unit (slice_index_or pairs c.args.unit c.index-pairs-unit.result) c.serve.new.self there
-    c.serve.ensures.shows c.serve.ensures.own tells in
-    (before, (c.serve.ensures.told told (tells c.args.unit c.serve.new.self (get_set_same pairs c.args.unit c.serve.new.self c.requires.there))).causes (c.requires.heard.all told before).order)
-
-pub returns-clause-copies : goal.returns-clause-copies
-returns-clause-copies g c = c.serve.ensures.shows.made
+pub returns-clause-aside : goal.returns-clause-aside
+returns-clause-aside g c = λ k apart.
+    let beside = c.serve.ensures.beside k apart in
+    record { unit = beside.unit; pair = get_set_other c.args.pairs.now c.args.unit k c.serve.new.self apart; books = beside.books }
 
 pub returns-clause-plainly : goal.returns-clause-plainly
 returns-clause-plainly g c =
     let server = c.args.server.now in
     let server' = c.serve.new.server in
     let pairs = c.args.pairs.now in
-    let books = books_of server.units.items server.records.grants.items server.records.history.items in
-    let books' = books_of server'.units.items server'.records.grants.items server'.records.history.items in
+    let books = books_in server in
+    let books' = books_in server' in
     let old = slice_index_or pairs c.args.unit c.index-pairs-unit.result in
     ok_then c.serve.result (ServesPlainly server.partition books books' c.args.unit old c.serve.new.self)
     (ServesPlainlyAt server.partition books books' pairs (slice_set pairs c.args.unit c.serve.new.self) c.args.unit)
@@ -192,15 +187,9 @@ returns-clause-idles g c =
     let server = c.args.server.now in
     let server' = c.serve.new.server in
     let pairs = c.args.pairs.now in
-    let books = books_of server.units.items server.records.grants.items server.records.history.items in
-    let books' = books_of server'.units.items server'.records.grants.items server'.records.history.items in
+    let books = books_in server in
+    let books' = books_in server' in
     let old = slice_index_or pairs c.args.unit c.index-pairs-unit.result in
     ok_more c.serve.result _ _
     (λ moved idles is. idled_at server.partition books books' pairs c.args.unit old (slice_get-get_or pairs c.args.unit c.index-pairs-unit.result c.requires.there) (idles is))
     c.serve.ensures.idles
-
-pub returns-clause-plainly_else : goal.returns-clause-plainly_else
-returns-clause-plainly_else g c = λ k apart. (c.serve.ensures.beside k apart).books
-
-pub returns-clause-partition : goal.returns-clause-partition
-returns-clause-partition g c = c.serve.ensures.partition

@@ -1,4 +1,4 @@
-use Rattle.std.proofs.Common.{rules, ◌≡◌, ◌∙◌, ◌∷◌, [], false, OnOk, Some, ap, refl, subst}
+use Rattle.std.proofs.Common.{rules, ◌≡◌, ◌∙◌, ◌∷◌, [], false, IfOk, OnOk, Some, ap, refl, subst}
 use Rattle.crq_session.specs.EndState.{EndPlace}
 use Rattle.crq_session.specs.declared.link.PlainLink.{PlainLink}
 use Rattle.tce_window.specs.PortState.{PortPlace}
@@ -18,6 +18,8 @@ use Rattle.vcpu_run.proofs.StepDrives.{step_drives}
 use Rattle.vcpu_run.proofs.ClientsLay.{lays_marked}
 use Rattle.vcpu_run.specs.PlainSeated.{DriverPlainly}
 use Rattle.vcpu_run.proofs.PlainSeated.{driver_plainly}
+use Rattle.vcpu_run.specs.ActsAt.{PairActs}
+use Rattle.vcpu_run.proofs.ActsSeats.{drive_acts}
 use Rattle.vcpu_run.proofs.seat.drive.Goals as goal
 
 pub returns-clause-shows : goal.returns-clause-shows
@@ -108,3 +110,15 @@ returns-clause-plainly c =
     (driver_plainly c.side.result.first end.first (lent.ghost_name ∷ []) (end.link.ghost_name ∷ []) lent.now old (pair end.link.now) c.in-Some.driver c.step.new.self
     c.args.line.now.verb c.args.progress.now c.step.new.progress c.step.result c.in-Some.is refl c.side.ensures.link c.side.ensures.first
     (ap (λ (p : EndPlace). p.first) c.step.ensures.works.place ∙ c.side.ensures.first) (c.step.ensures.plainly refl refl))
+
+pub returns-clause-acts : goal.returns-clause-acts
+returns-clause-acts c =
+    let old = c.args.pair.now in
+    let end = c.step.new.crq.end in
+    let lent = c.side.result.link in
+    let pair : PlainLink → Pair = λ link. record { server = old.server; link = link; own = old.own; window = c.step.new.own; driver = Some c.step.new.self } in
+    let link_is : end.link.now ≡ c.pair-2-1.given.0 = search rules in
+    subst (λ (link : PlainLink). IfOk c.step.result (PairActs c.args.line.now c.args.progress.now c.step.new.progress old (pair link))) link_is
+    (drive_acts c.side.result.first end.first (lent.ghost_name ∷ []) (end.link.ghost_name ∷ []) lent.now old (pair end.link.now) c.in-Some.driver c.step.new.self
+    c.args.line.now c.args.progress.now c.step.new.progress c.step.result c.in-Some.is refl c.side.ensures.link c.side.ensures.first
+    (ap (λ (p : EndPlace). p.first) c.step.ensures.works.place ∙ c.side.ensures.first) (ap (λ (p : EndPlace). p.lenders) c.step.ensures.works.place) c.step.ensures.acts)

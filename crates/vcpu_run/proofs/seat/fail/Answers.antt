@@ -1,4 +1,4 @@
-use Rattle.std.proofs.Common.{◌≡◌, ◌∙◌, ◌∷◌, [], false, true, refl, ap}
+use Rattle.std.proofs.Common.{◌≡◌, ◌∙◌, ◌∷◌, [], inl, inr, false, true, refl, ap}
 use Rattle.vio_num.specs.Entry.{partner_failed}
 use Rattle.crq_session.specs.EndState.{EndCounts}
 use Rattle.vcpu_run.specs.declared.pair.Pair.{Pair}
@@ -13,6 +13,9 @@ use Rattle.vcpu_run.proofs.CalmTurns.{ShutsEnd, shuts_failed, shuts_link, shuts_
 use Rattle.vcpu_run.proofs.FailedShut.{off_link}
 use Rattle.vcpu_run.proofs.PlainFailing.{pair_freed, pair_shut}
 use Rattle.vcpu_run.proofs.LoginsTold.{true_false}
+use Rattle.vcpu_run.specs.ActsAt.{FailsOnce}
+use Rattle.vcpu_run.proofs.ActsSeats.{at_both, fail_acts}
+use Rattle.vcpu_run.proofs.PlainOpens.{reserves_on}
 use Rattle.vcpu_run.proofs.seat.fail.Goals as goal
 
 pub returns-in_err-reserve-clause-drives : goal.returns-in_err-reserve-clause-drives
@@ -159,3 +162,34 @@ returns-in-Parameter-clause-plainly c =
 -- the end is not shared
 pub returns-in-Busy-clause-plainly : goal.returns-in-Busy-clause-plainly
 returns-in-Busy-clause-plainly c = absurd (true_false true refl (sym c.in-Busy.ensures.busy.shared_end))
+
+pub returns-in-Success-clause-acts : goal.returns-in-Success-clause-acts
+returns-in-Success-clause-acts c =
+    let old = c.args.pair.now in
+    let room = c.in_ok-reserve.ensures.rest in
+    let rest = c.fail.ensures.rest in
+    let mid : Pair = record { server = old.server; link = c.fail.new.self.link.now; own = old.own; window = old.window; driver = old.driver } in
+    fail_acts c.side-end.result.first c.fail.new.self.first (c.side-end.result.link.ghost_name ∷ []) (c.fail.new.self.link.ghost_name ∷ []) c.side-end.result.link.now old mid c.freed.new.pair
+    (state_of c.reserve.new.self) refl c.side-end.ensures.link c.side-end.ensures.first (ap (λ (p : EndPlace). p.first) (rest.place ∙ room.place) ∙ c.side-end.ensures.first)
+    (ap (λ (p : EndPlace). p.lenders) (rest.place ∙ room.place)) c.freed.ensures.link c.freed.ensures.window c.freed.ensures.told c.freed.ensures.noted room c.in-Success.ensures.success rest
+
+pub returns-in-Parameter-clause-acts : goal.returns-in-Parameter-clause-acts
+returns-in-Parameter-clause-acts c =
+    let old = c.args.pair.now in
+    let room = c.in_ok-reserve.ensures.rest in
+    let rest = c.fail.ensures.rest in
+    let still = c.in-Parameter.ensures.refused in
+    let mid : Pair = record { server = old.server; link = c.fail.new.self.link.now; own = old.own; window = old.window; driver = old.driver } in
+    at_both FailsOnce c.side-end.result.first c.fail.new.self.first (c.side-end.result.link.ghost_name ∷ []) (c.fail.new.self.link.ghost_name ∷ []) c.side-end.result.link.now old mid
+    refl c.side-end.ensures.link c.side-end.ensures.first (ap (λ (p : EndPlace). p.first) (rest.place ∙ room.place) ∙ c.side-end.ensures.first)
+    (ap (λ (p : EndPlace). p.lenders) (rest.place ∙ room.place))
+    (λ a. inr (inl (record {
+      ready = reserves_on (state_of c.side-end.result) (state_of c.reserve.new.self) (state_of c.fail.new.self) room still;
+      unregistered = still.registered ∙ c.fail.ensures.parameter.0 c.in-Parameter.is;
+      own = refl;
+      client = record { client = refl; answers = refl };
+    })))
+
+-- the end is not shared
+pub returns-in-Busy-clause-acts : goal.returns-in-Busy-clause-acts
+returns-in-Busy-clause-acts c = absurd (true_false true refl (sym c.in-Busy.ensures.busy.shared_end))

@@ -1,4 +1,4 @@
-use Rattle.std.proofs.Common.{◌∙◌, refl, ap}
+use Rattle.std.proofs.Common.{◌∙◌, inl, inr, refl, ap}
 use Rattle.crq_session.specs.EndState.{EndCounts}
 use Rattle.vcpu_run.proofs.Announcing.{puts_kept, puts_nothing, puts_pushes, puts_ready, puts_reserves}
 use Rattle.vcpu_run.proofs.Driving.{drives_link, if_none}
@@ -8,6 +8,8 @@ use Rattle.crq_session.specs.PlainState.{state_of}
 use Rattle.vcpu_run.proofs.Calming.{calm_on, calm_ready, calm_same, nothing_calm, pushes_calm}
 use Rattle.vcpu_run.proofs.CalmTurns.{calm_link}
 use Rattle.vcpu_run.proofs.PlainPushed.{stands_kept, stands_nothing, stands_put, talks_pushed}
+use Rattle.vcpu_run.specs.ActsAt.{PushesEvent}
+use Rattle.vcpu_run.proofs.ActsSeats.{at_both}
 use Rattle.vcpu_run.proofs.seat.push_event.Goals as goal
 
 pub returns-in_err-reserve-clause-drives : goal.returns-in_err-reserve-clause-drives
@@ -106,3 +108,30 @@ returns-in-Kept-clause-plainly c =
     talks_pushed c.side-end.result.first c.push_event.new.self.first (c.side-end.result.link.ghost_name ∷ []) (c.push_event.new.self.link.ghost_name ∷ [])
     c.side-end.result.link.now c.args.pair.now _ c.side-end.ensures.link c.side-end.ensures.first (ap (λ (p : EndPlace). p.first) place ∙ c.side-end.ensures.first) drives refl refl
     (stands_kept (state_of c.side-end.result) (state_of c.reserve.new.self) (state_of c.push_event.new.self) c.in-Kept.number c.in-Kept.held room c.in-Kept.ensures.still)
+
+pub returns-in-Nothing-clause-acts : goal.returns-in-Nothing-clause-acts
+returns-in-Nothing-clause-acts c =
+    let room = c.in_ok-reserve.ensures.rest in
+    let rest = c.push_event.ensures.rest in
+    let place = rest.place ∙ room.place in
+    at_both PushesEvent c.side-end.result.first c.push_event.new.self.first (c.side-end.result.link.ghost_name ∷ []) (c.push_event.new.self.link.ghost_name ∷ []) c.side-end.result.link.now
+    c.args.pair.now (record c.args.pair.now { link = c.push_event.new.self.link.now }) refl c.side-end.ensures.link c.side-end.ensures.first (ap (λ (p : EndPlace). p.first) place ∙ c.side-end.ensures.first) (ap (λ (p : EndPlace). p.lenders) place)
+    (λ a. record { room = state_of c.reserve.new.self; ready = room; pushes = inl c.in-Nothing.ensures.nothing; rest = rest; own = refl; client = record { client = refl; answers = refl } })
+
+pub returns-in-Put-clause-acts : goal.returns-in-Put-clause-acts
+returns-in-Put-clause-acts c =
+    let room = c.in_ok-reserve.ensures.rest in
+    let rest = c.push_event.ensures.rest in
+    let place = rest.place ∙ room.place in
+    at_both PushesEvent c.side-end.result.first c.push_event.new.self.first (c.side-end.result.link.ghost_name ∷ []) (c.push_event.new.self.link.ghost_name ∷ []) c.side-end.result.link.now
+    c.args.pair.now (record c.args.pair.now { link = c.push_event.new.self.link.now }) refl c.side-end.ensures.link c.side-end.ensures.first (ap (λ (p : EndPlace). p.first) place ∙ c.side-end.ensures.first) (ap (λ (p : EndPlace). p.lenders) place)
+    (λ a. record { room = state_of c.reserve.new.self; ready = room; pushes = inr (inl c.in-Put.ensures.put); rest = rest; own = refl; client = record { client = refl; answers = refl } })
+
+pub returns-in-Kept-clause-acts : goal.returns-in-Kept-clause-acts
+returns-in-Kept-clause-acts c =
+    let room = c.in_ok-reserve.ensures.rest in
+    let rest = c.push_event.ensures.rest in
+    let place = rest.place ∙ room.place in
+    at_both PushesEvent c.side-end.result.first c.push_event.new.self.first (c.side-end.result.link.ghost_name ∷ []) (c.push_event.new.self.link.ghost_name ∷ []) c.side-end.result.link.now
+    c.args.pair.now (record c.args.pair.now { link = c.push_event.new.self.link.now }) refl c.side-end.ensures.link c.side-end.ensures.first (ap (λ (p : EndPlace). p.first) place ∙ c.side-end.ensures.first) (ap (λ (p : EndPlace). p.lenders) place)
+    (λ a. record { room = state_of c.reserve.new.self; ready = room; pushes = inr (inr (c.in-Kept.number, c.in-Kept.held, c.in-Kept.ensures.still)); rest = rest; own = refl; client = record { client = refl; answers = refl } })

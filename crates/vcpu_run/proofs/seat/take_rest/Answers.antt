@@ -14,6 +14,9 @@ use Rattle.vcpu_run.proofs.ClientsLay.{lays_none}
 use Rattle.vcpu_run.specs.PlainScripts.{PairRestsPlainly}
 use Rattle.vcpu_run.specs.PlainTalk.{TookNoMore}
 use Rattle.vcpu_run.proofs.PlainSeated.{pair_rests}
+use Rattle.vcpu_run.specs.Acts.{TakesRest}
+use Rattle.vcpu_run.specs.ActsAt.{AtPair}
+use Rattle.vcpu_run.proofs.ActsSeats.{at_pair_ok}
 use Rattle.vcpu_run.proofs.seat.take_rest.Goals as goal
 
 pub returns-clause-gives : goal.returns-clause-gives
@@ -77,3 +80,15 @@ returns-clause-plainly c =
     (pair_rests c.side.result.first end.first (lent.ghost_name ∷ []) (end.link.ghost_name ∷ []) lent.now old (pair end.link.now) c.in-Some.driver c.take_rest-moved.new.self
     c.take_rest-moved.result c.in-Some.is refl c.side.ensures.link c.side.ensures.first (ap (λ (p : EndPlace). p.first) c.take_rest-moved.ensures.works.place ∙ c.side.ensures.first) drives
     (subst (λ (link : PlainLink). TookNoMore (end_of [] link false)) (sym link_is) c.took_no_more.ensures) (c.take_rest-moved.ensures.plainly refl refl))
+
+pub returns-clause-acts : goal.returns-clause-acts
+returns-clause-acts c =
+    let old = c.args.pair.now in
+    let end = c.take_rest-moved.new.crq.end in
+    let lent = c.side.result.link in
+    let pair : PlainLink → Pair = λ link. record { server = old.server; link = link; own = old.own; window = c.take_rest-moved.new.own; driver = Some c.take_rest-moved.new.self } in
+    let link_is : end.link.now ≡ c.pair-2-1.given.0 = search rules in
+    subst (λ (link : PlainLink). OnOk c.take_rest-moved.result (AtPair TakesRest old (pair link))) link_is
+    (at_pair_ok TakesRest c.take_rest-moved.result c.side.result.first end.first (lent.ghost_name ∷ []) (end.link.ghost_name ∷ []) lent.now old (pair end.link.now) c.in-Some.driver c.take_rest-moved.new.self
+    c.in-Some.is refl c.side.ensures.link c.side.ensures.first (ap (λ (p : EndPlace). p.first) c.take_rest-moved.ensures.works.place ∙ c.side.ensures.first)
+    (ap (λ (p : EndPlace). p.lenders) c.take_rest-moved.ensures.works.place) c.take_rest-moved.ensures.acts)

@@ -12,6 +12,8 @@ use Rattle.vcpu_run.proofs.FailedPorts.{closed_all, closed_before, closed_next}
 use Rattle.vcpu_run.proofs.FailedShut.{shut_all, shut_before, shut_next}
 use Rattle.vcpu_run.proofs.LoginsTold.{true_false}
 use Rattle.vcpu_run.proofs.PlainSeats.{all_fail_on, all_fail_same}
+use Rattle.vcpu_run.specs.ActsAt.{FailsOnce}
+use Rattle.vcpu_run.proofs.ActsPairs.{all_lead_on, all_lead_same}
 use Rattle.vcpu_run.proofs.seats.fail.Goals as goal
 
 pub fail_at-requires-clause-client : goal.fail_at-requires-clause-client
@@ -30,6 +32,7 @@ returns-then-not-branch-clause-driven c = driven_on c.args.pairs.now c.loop-k.pa
 
 pub loop-k-preserved : goal.loop-k-preserved
 loop-k-preserved c = record {
+  acts = all_lead_on FailsOnce c.args.pairs.now c.loop-k.pairs c.fail_at.new.pairs c.loop-k.invariant.driven c.loop-k.invariant.acts c.in_ok-fail_at.ensures.acts;
   driven = driven_on c.args.pairs.now c.loop-k.pairs c.fail_at.new.pairs c.loop-k.invariant.driven c.fail_at.ensures.driven;
   gives = all_give_on c.args.pairs.now c.loop-k.pairs c.fail_at.new.pairs c.loop-k.invariant.gives c.in_ok-fail_at.ensures.gives;
   fails = all_fail_on c.args.pairs.now c.loop-k.pairs c.fail_at.new.pairs c.loop-k.invariant.driven c.loop-k.invariant.fails c.in_ok-fail_at.ensures.plainly;
@@ -110,6 +113,7 @@ returns-then-not-branch-clause-lays c = none_lay_on c.args.pairs.now c.loop-k.pa
 
 pub loop-k-init : goal.loop-k-init
 loop-k-init c = record {
+  acts = all_lead_same FailsOnce c.args.pairs.now;
   driven = driven_same c.args.pairs.now;
   gives = all_give_same c.args.pairs.now;
   fails = all_fail_same c.args.pairs.now;
@@ -145,3 +149,10 @@ returns-then-not-branch-clause-plainly c =
 
 pub returns-clause-plainly : goal.returns-clause-plainly
 returns-clause-plainly c = c.loop-k.invariant.fails
+
+pub returns-then-not-branch-clause-acts : goal.returns-then-not-branch-clause-acts
+returns-then-not-branch-clause-acts c =
+    all_lead_on FailsOnce c.args.pairs.now c.loop-k.pairs c.fail_at.new.pairs c.loop-k.invariant.driven c.loop-k.invariant.acts c.in_ok-fail_at.ensures.acts
+
+pub returns-clause-acts : goal.returns-clause-acts
+returns-clause-acts c = c.loop-k.invariant.acts

@@ -11,6 +11,7 @@ use Rattle.vcpu_run.specs.FailedShut.{AreShutTo}
 use Rattle.vcpu_run.specs.ClientStrokes.{NoneLay}
 use Rattle.vcpu_run.specs.ValuesPut.{AllSameValues}
 use Rattle.vcpu_run.specs.Works.{HaveClients}
+use Rattle.vcpu_run.specs.ActsAt.{AllLead, FailsOnce}
 use Rattle.vcpu_run.proofs.seats.fail.Given as goal
 
 abbrev pub invariant-loop-k : goal.invariant-loop-k
@@ -30,4 +31,5 @@ invariant-loop-k l = record {
   lan : l.lan.seats ≡ l.initial.lan.seats;
   idle : AllSilent l.initial.lan l.lan;
   apart : IsApart l.partition l.initial.lan l.lan;
+  acts : AllLead FailsOnce l.initial.pairs l.pairs;
 }

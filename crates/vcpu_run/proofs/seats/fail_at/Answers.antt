@@ -12,6 +12,8 @@ use Rattle.vcpu_run.specs.FailedShut.{opens_if}
 use Rattle.vcpu_run.proofs.PlainSeats.{all_fail_same}
 use Rattle.vcpu_run.proofs.PortsResting.{ok_any}
 use Rattle.vcpu_run.proofs.Resting.{ok_more}
+use Rattle.vcpu_run.specs.ActsAt.{FailsOnce}
+use Rattle.vcpu_run.proofs.ActsPairs.{all_lead_same}
 use Rattle.vcpu_run.proofs.seats.fail_at.Goals as goal
 
 pub fail_of-requires-clause-there : goal.fail_of-requires-clause-there
@@ -70,3 +72,9 @@ returns-in-Port-clause-plainly c = on_ok c.fail.result _ (all_fail_same c.args.p
 
 pub returns-in-Server-clause-plainly : goal.returns-in-Server-clause-plainly
 returns-in-Server-clause-plainly c = all_fail_same c.args.pairs.now
+
+pub returns-in-Server-clause-acts : goal.returns-in-Server-clause-acts
+returns-in-Server-clause-acts c = all_lead_same FailsOnce c.args.pairs.now
+
+pub returns-in-Port-clause-acts : goal.returns-in-Port-clause-acts
+returns-in-Port-clause-acts c = on_ok c.fail.result _ (all_lead_same FailsOnce c.args.pairs.now)

@@ -8,6 +8,8 @@ use Rattle.vcpu_run.proofs.CalmTurns.{shut_set}
 use Rattle.vcpu_run.proofs.FailedShut.{off_set}
 use Rattle.vcpu_run.proofs.PlainSeats.{all_fail_ok}
 use Rattle.vcpu_run.proofs.Resting.{ok_more}
+use Rattle.vcpu_run.specs.ActsAt.{FailsOnce}
+use Rattle.vcpu_run.proofs.ActsPairs.{all_lead_ok}
 use Rattle.vcpu_run.proofs.seats.fail_of.Goals as goal
 
 pub fail-requires : goal.fail-requires
@@ -43,3 +45,7 @@ returns-clause-down c = ok_more c.fail.result _ _ (λ done off is. off_set c.arg
 pub returns-clause-plainly : goal.returns-clause-plainly
 returns-clause-plainly c =
     all_fail_ok c.fail.result c.args.pairs.now c.args.pair _ c.fail.new.pair (slice_get-get_or c.args.pairs.now c.args.pair _ c.requires.there) c.fail.ensures.plainly
+
+pub returns-clause-acts : goal.returns-clause-acts
+returns-clause-acts c =
+    all_lead_ok FailsOnce c.fail.result c.args.pairs.now c.args.pair _ c.fail.new.pair (slice_get-get_or c.args.pairs.now c.args.pair _ c.requires.there) c.fail.ensures.acts

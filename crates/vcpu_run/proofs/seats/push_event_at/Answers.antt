@@ -6,6 +6,8 @@ use Rattle.vcpu_run.proofs.ClientsTold.{clients_same}
 use Rattle.vcpu_run.proofs.Driving.{driven_same}
 use Rattle.vcpu_run.proofs.Elsewhere.{else_one}
 use Rattle.vcpu_run.proofs.PlainSeats.{all_talk_same}
+use Rattle.vcpu_run.specs.ActsAt.{PushesEvent}
+use Rattle.vcpu_run.proofs.ActsPairs.{all_lead_same}
 use Rattle.vcpu_run.proofs.seats.push_event_at.Goals as goal
 
 pub push_event_of-requires : goal.push_event_of-requires
@@ -32,3 +34,6 @@ returns-in-Client-clause-others c =
 
 pub returns-in-Server-clause-plainly : goal.returns-in-Server-clause-plainly
 returns-in-Server-clause-plainly c = all_talk_same c.args.pairs.now
+
+pub returns-in-Server-clause-acts : goal.returns-in-Server-clause-acts
+returns-in-Server-clause-acts c = all_lead_same PushesEvent c.args.pairs.now

@@ -11,6 +11,8 @@ use Rattle.vcpu_run.proofs.Driving.{driven_set}
 use Rattle.vcpu_run.proofs.LinesShown.{drives_sees}
 use Rattle.vcpu_run.proofs.DropsKept.{drives_more}
 use Rattle.vcpu_run.proofs.PlainSeats.{all_talk_ok}
+use Rattle.vcpu_run.specs.ActsAt.{PushesEvent}
+use Rattle.vcpu_run.proofs.ActsPairs.{all_lead_ok}
 use Rattle.vcpu_run.proofs.seats.push_event_of.Goals as goal
 
 pub returns-clause-driven : goal.returns-clause-driven
@@ -56,3 +58,7 @@ returns-clause-others c = set_beside c.args.pairs.now c.args.pair c.push_event.n
 pub returns-clause-plainly : goal.returns-clause-plainly
 returns-clause-plainly c =
     all_talk_ok c.push_event.result c.args.pairs.now c.args.pair _ c.push_event.new.pair (slice_get-get_or c.args.pairs.now c.args.pair _ c.requires) c.push_event.ensures.plainly
+
+pub returns-clause-acts : goal.returns-clause-acts
+returns-clause-acts c =
+    all_lead_ok PushesEvent c.push_event.result c.args.pairs.now c.args.pair _ c.push_event.new.pair (slice_get-get_or c.args.pairs.now c.args.pair _ c.requires) c.push_event.ensures.acts

@@ -7,6 +7,8 @@ use Rattle.vcpu_run.proofs.Elsewhere.{else_none, else_on, else_within}
 use Rattle.vcpu_run.proofs.ClientsTold.{clients_on, clients_same}
 use Rattle.vcpu_run.proofs.Driving.{driven_on, driven_same, seat_of, seat_within, still_clients}
 use Rattle.vcpu_run.proofs.PlainSeats.{all_talk_on, all_talk_same}
+use Rattle.vcpu_run.specs.ActsAt.{PushesEvent}
+use Rattle.vcpu_run.proofs.ActsPairs.{all_lead_on, all_lead_same}
 use Rattle.vcpu_run.proofs.seats.push_events.Goals as goal
 
 pub push_event_at-requires : goal.push_event_at-requires
@@ -19,6 +21,7 @@ returns-in_err-here-clause-driven c = driven_on c.args.pairs.now c.loop-k.pairs 
 
 pub loop-k-preserved : goal.loop-k-preserved
 loop-k-preserved c = record {
+  acts = all_lead_on PushesEvent c.args.pairs.now c.loop-k.pairs c.push_event_at.new.pairs c.loop-k.invariant.driven c.loop-k.invariant.acts c.in_ok-here.ensures.acts;
   driven = driven_on c.args.pairs.now c.loop-k.pairs c.push_event_at.new.pairs c.loop-k.invariant.driven c.push_event_at.ensures.driven;
   others = else_on c.args.seats.now c.args.pairs.now c.loop-k.pairs c.push_event_at.new.pairs c.loop-k.invariant.others
       (else_within c.args.seats.now c.loop-k.k (slice_index_or c.args.seats.now c.loop-k.k sits.Server) c.loop-k.pairs c.push_event_at.new.pairs
@@ -40,6 +43,7 @@ returns-in_err-here-clause-drivers c = (λ k. c.push_event_at.ensures.drivers k 
 
 pub loop-k-init : goal.loop-k-init
 loop-k-init c = record {
+  acts = all_lead_same PushesEvent c.args.pairs.now;
   driven = driven_same c.args.pairs.now;
   others = else_none c.args.seats.now c.args.pairs.now;
   drivers = λ k. refl;

@@ -9,6 +9,7 @@ use Rattle.vcpu_run.specs.Pairs.{AreDriven}
 use Rattle.vcpu_run.specs.PlainScripts.{AllTalkOn}
 use Rattle.vcpu_run.specs.ScriptTold.{SameClients}
 use Rattle.vcpu_run.specs.Works.{HaveClients}
+use Rattle.vcpu_run.specs.ActsAt.{AllLead, PushesEvent}
 use Rattle.vcpu_run.proofs.seats.push_events.Given as goal
 
 abbrev pub invariant-loop-k : goal.invariant-loop-k
@@ -22,4 +23,5 @@ invariant-loop-k l = record {
   stays : FreesNoneIf (λ _. ⊤) l.initial.pairs l.pairs;
   rest : l.moved ≡ Quiet → LinksRest l.initial.pairs l.pairs;
   wait : l.moved ≡ Quiet → (u k : ℕ) → u < l.k → slice_get l.seats u ≡ Some (sits.Client k) → IfSome (slice_get l.pairs k) EventWaits;
+  acts : AllLead PushesEvent l.initial.pairs l.pairs;
 }

@@ -8,6 +8,7 @@ use Rattle.vcpu_run.proofs.ClientRecords.{seat_stepped}
 use Rattle.vcpu_run.proofs.ClientsLay.{own_lay_set}
 use Rattle.vcpu_run.proofs.SeatsTold.{set_out, set_told}
 use Rattle.vcpu_run.proofs.PlainSeats.{seat_plainly}
+use Rattle.vcpu_run.proofs.ActsPairs.{seat_acts}
 use Rattle.vcpu_run.proofs.seats.step_at.Goals as goal
 
 pub step-requires-clause-driver : goal.step-requires-clause-driver
@@ -53,3 +54,8 @@ pub returns-clause-plainly : goal.returns-clause-plainly
 returns-clause-plainly c =
     seat_plainly c.args.line.now.verb c.args.progress.now c.step.new.progress c.step.result c.args.pairs.now c.args.pair _ c.step.new.pair
     (slice_get-get_or c.args.pairs.now c.args.pair _ c.requires.there) c.step.ensures.plainly
+
+pub returns-clause-acts : goal.returns-clause-acts
+returns-clause-acts c =
+    seat_acts c.args.line.now c.args.progress.now c.step.new.progress c.step.result c.args.pairs.now c.args.pair _ c.step.new.pair
+    (slice_get-get_or c.args.pairs.now c.args.pair _ c.requires.there) c.step.ensures.acts

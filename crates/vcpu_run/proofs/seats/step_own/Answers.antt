@@ -14,6 +14,7 @@ use Rattle.vcpu_run.proofs.Crediting.{on_ok}
 use Rattle.vcpu_run.proofs.Elsewhere.{else_none, else_one}
 use Rattle.vcpu_run.specs.PortWords.{done_in}
 use Rattle.vcpu_run.proofs.PlainSeats.{line_plainly, port_plainly}
+use Rattle.vcpu_run.proofs.ActsPairs.{client_acts, port_acts}
 use Rattle.vcpu_run.proofs.seats.step_own.Goals as goal
 
 pub seat_at-requires : goal.seat_at-requires
@@ -172,3 +173,12 @@ returns-in-Client-clause-plainly c =
 pub returns-in-Port-clause-plainly : goal.returns-in-Port-clause-plainly
 returns-in-Port-clause-plainly c =
     port_plainly c.args.seats.now c.args.line.now c.args.progress.now c.step.new.progress c.step.result c.args.pairs.now c.args.pairs.now (c.seat_at.ensures ∙ ap Some c.in-Port.is)
+
+pub returns-in-Client-clause-acts : goal.returns-in-Client-clause-acts
+returns-in-Client-clause-acts c =
+    client_acts c.args.seats.now c.args.line.now c.args.progress.now c.step_at.new.progress c.step_at.result c.in-Client.pair c.args.pairs.now c.step_at.new.pairs
+    (c.seat_at.ensures ∙ ap Some c.in-Client.is) c.step_at.ensures.acts
+
+pub returns-in-Port-clause-acts : goal.returns-in-Port-clause-acts
+returns-in-Port-clause-acts c =
+    port_acts c.args.seats.now c.args.line.now c.args.progress.now c.step.new.progress c.step.result c.args.pairs.now (c.seat_at.ensures ∙ ap Some c.in-Port.is)

@@ -120,3 +120,11 @@ returns-in-Some-clause-plainly c = λ none.
   where
     not_both : (b : Bool) → b ≡ true → b ≡ false → ⊥
     not_both b is isnt = cc
+
+pub returns-in-Some-clause-acts : goal.returns-in-Some-clause-acts
+returns-in-Some-clause-acts c = λ none.
+    let calls : is_call c.args.line.now.verb ≡ true = search rules in
+    absurd (not_both (is_call c.args.line.now.verb) calls none)
+  where
+    not_both : (b : Bool) → b ≡ true → b ≡ false → ⊥
+    not_both b is isnt = cc

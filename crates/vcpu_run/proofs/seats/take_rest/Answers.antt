@@ -16,6 +16,8 @@ use Rattle.vcpu_run.proofs.GivesAll.{all_give_on, all_give_same}
 use Rattle.vcpu_run.proofs.PortsResting.{ports_same, taken_all, taken_next}
 use Rattle.lan_script.proofs.Laws.{ports_on}
 use Rattle.vcpu_run.proofs.PlainSeats.{all_rest_on, all_rest_same}
+use Rattle.vcpu_run.specs.Acts.{TakesRest}
+use Rattle.vcpu_run.proofs.ActsPairs.{all_lead_on, all_lead_same}
 use Rattle.vcpu_run.proofs.seats.take_rest.Goals as goal
 
 pub take_rest_at-requires-clause-client : goal.take_rest_at-requires-clause-client
@@ -37,6 +39,7 @@ returns-in_err-here-clause-others c =
 
 pub loop-k-preserved : goal.loop-k-preserved
 loop-k-preserved c = record {
+  acts = all_lead_on TakesRest c.args.pairs.now c.loop-k.pairs c.take_rest_at.new.pairs c.loop-k.invariant.driven c.loop-k.invariant.acts c.in_ok-here.ensures.acts;
   driven = driven_on c.args.pairs.now c.loop-k.pairs c.take_rest_at.new.pairs c.loop-k.invariant.driven c.take_rest_at.ensures.driven;
   gives = all_give_on c.args.pairs.now c.loop-k.pairs c.take_rest_at.new.pairs c.loop-k.invariant.gives c.in_ok-here.ensures.gives;
   rests = all_rest_on c.args.pairs.now c.loop-k.pairs c.take_rest_at.new.pairs c.loop-k.invariant.driven c.loop-k.invariant.rests c.in_ok-here.ensures.plainly;
@@ -78,6 +81,7 @@ returns-clause-quiet c = λ is. record {
 
 pub loop-k-init : goal.loop-k-init
 loop-k-init c = record {
+  acts = all_lead_same TakesRest c.args.pairs.now;
   driven = driven_same c.args.pairs.now;
   gives = all_give_same c.args.pairs.now;
   rests = all_rest_same c.args.pairs.now;

@@ -17,6 +17,8 @@ use Rattle.vcpu_run.specs.FailedShut.{AllStayShut}
 use Rattle.vcpu_run.specs.ClientStrokes.{NoneLay}
 use Rattle.vcpu_run.specs.ValuesPut.{AllSameValues}
 use Rattle.vcpu_run.specs.Works.{HaveClients}
+use Rattle.vcpu_run.specs.Acts.{TakesRest}
+use Rattle.vcpu_run.specs.ActsAt.{AllLead}
 use Rattle.vcpu_run.proofs.seats.take_rest.Given as goal
 
 abbrev pub invariant-loop-k : goal.invariant-loop-k
@@ -39,4 +41,5 @@ invariant-loop-k l = record {
   taken : l.moved ≡ Quiet → AreTaken l.partition l.k l.seats l.lan;
   rest : l.moved ≡ Quiet → LinksRest l.initial.pairs l.pairs;
   wait : l.moved ≡ Quiet → (u k : ℕ) → u < l.k → slice_get l.seats u ≡ Some (sits.Client k) → IsSomeAnd (slice_get (links_of l.pairs) k) ClientWaits;
+  acts : AllLead TakesRest l.initial.pairs l.pairs;
 }

@@ -12,6 +12,8 @@ use Rattle.vcpu_run.proofs.CalmTurns.{calm_none}
 use Rattle.vcpu_run.proofs.FailedShut.{stay_none}
 use Rattle.vcpu_run.proofs.ClientsLay.{none_lay_same}
 use Rattle.vcpu_run.proofs.PlainSeats.{all_rest_same}
+use Rattle.vcpu_run.specs.Acts.{TakesRest}
+use Rattle.vcpu_run.proofs.ActsPairs.{all_lead_same}
 use Rattle.vcpu_run.proofs.seats.take_rest_at.Goals as goal
 
 pub take_rest_of-requires-clause-there : goal.take_rest_of-requires-clause-there
@@ -81,3 +83,9 @@ returns-in-Port-clause-plainly c = on_ok c.take_rest.result _ (all_rest_same c.a
 
 pub returns-in-Server-clause-plainly : goal.returns-in-Server-clause-plainly
 returns-in-Server-clause-plainly c = all_rest_same c.args.pairs.now
+
+pub returns-in-Server-clause-acts : goal.returns-in-Server-clause-acts
+returns-in-Server-clause-acts c = all_lead_same TakesRest c.args.pairs.now
+
+pub returns-in-Port-clause-acts : goal.returns-in-Port-clause-acts
+returns-in-Port-clause-acts c = on_ok c.take_rest.result _ (all_lead_same TakesRest c.args.pairs.now)

@@ -10,6 +10,8 @@ use Rattle.vcpu_run.proofs.Driving.{driven_set, some_there}
 use Rattle.vcpu_run.proofs.GivesAll.{all_give_ok}
 use Rattle.vcpu_run.proofs.CalmTurns.{calm_set}
 use Rattle.vcpu_run.proofs.PlainSeats.{all_rest_ok}
+use Rattle.vcpu_run.specs.Acts.{TakesRest}
+use Rattle.vcpu_run.proofs.ActsPairs.{all_lead_ok}
 use Rattle.vcpu_run.proofs.seats.take_rest_of.Goals as goal
 
 pub take_rest-requires : goal.take_rest-requires
@@ -59,3 +61,7 @@ returns-clause-stays_shut c =
 pub returns-clause-plainly : goal.returns-clause-plainly
 returns-clause-plainly c =
     all_rest_ok c.take_rest.result c.args.pairs.now c.args.pair _ c.take_rest.new.pair (slice_get-get_or c.args.pairs.now c.args.pair _ c.requires.there) c.take_rest.ensures.plainly
+
+pub returns-clause-acts : goal.returns-clause-acts
+returns-clause-acts c =
+    all_lead_ok TakesRest c.take_rest.result c.args.pairs.now c.args.pair _ c.take_rest.new.pair (slice_get-get_or c.args.pairs.now c.args.pair _ c.requires.there) c.take_rest.ensures.acts

@@ -14,6 +14,8 @@ use Rattle.vcpu_run.proofs.EventsHeard.{sent_none}
 use Rattle.vcpu_run.proofs.Giving.{asks_hear}
 use Rattle.vcpu_run.specs.PlainSteps.{own_by, own_of}
 use Rattle.vcpu_run.proofs.PlainRequests.{command_plainly}
+use Rattle.vcpu_run.specs.Acts.{acting}
+use Rattle.vcpu_run.proofs.ActsAsking.{command_acts}
 use Rattle.vcpu_run.proofs.driver.Driver.command.Goals as goal
 
 pub returns-clause-works : goal.returns-clause-works
@@ -99,3 +101,9 @@ returns-clause-plainly g c = λ crq_alone own_alone verb p is.
     (own_by c.submit.new.self c.args.self.now.answers.items (g.C.CrqEnd.state c.submit.new.crq.end) (g.O.WindowPort.state c.submit.new.own))
     c.submit.result c.sent.result refl c.sent.ensures.sent c.sent.ensures.why c.sent.ensures.memory c.submit.ensures.refused c.submit.ensures.sent c.submit.ensures.why
     c.submit.ensures.crq_rest c.submit.ensures.own_rest crq_alone own_alone verb p is c.requires.fits
+
+pub returns-clause-acts : goal.returns-clause-acts
+returns-clause-acts g c =
+    command_acts c.args.line c.args.op.now (acting c.args.self.now g.C.CrqEnd.is_shared (g.C.CrqEnd.state c.args.crq.now.end) g.O.WindowPort.is_shared (g.O.WindowPort.state c.args.own.now))
+    (acting (record c.args.self.now { client = c.submit.new.self }) g.C.CrqEnd.is_shared (g.C.CrqEnd.state c.submit.new.crq.end) g.O.WindowPort.is_shared (g.O.WindowPort.state c.submit.new.own))
+    c.submit.result c.sent.result refl c.sent.ensures.sent c.sent.ensures.why c.submit.ensures.refused c.submit.ensures.sent c.submit.ensures.why

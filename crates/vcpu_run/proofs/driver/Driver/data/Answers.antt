@@ -1,4 +1,4 @@
-use Rattle.std.proofs.Common.{◌≡◌, ◌≤◌, Err, length, refl, rules}
+use Rattle.std.proofs.Common.{◌≡◌, ◌≤◌, Err, Ok, length, refl, rules}
 use Rattle.srp_desc.specs.declared.pieces.TheConstants.{MAX_DATA_LEN}
 use Rattle.vcpu_run.specs.LinesShow.{seen_by}
 use Rattle.unit_region.specs.declared.step.Step.TheVariants as steps
@@ -11,6 +11,8 @@ use Rattle.vcpu_run.proofs.TakingCalls.{tags_still}
 use Rattle.vcpu_run.proofs.TakingData.{data_waits, known_taken, not_unknown, unknown_taken}
 use Rattle.vcpu_run.specs.PlainSteps.{own_by, own_of}
 use Rattle.vcpu_run.proofs.PlainAside.{data_steps}
+use Rattle.vcpu_run.specs.Acts.{acting}
+use Rattle.vcpu_run.proofs.ActsLines.{data_acts, data_said, reads_acts}
 use Rattle.vcpu_run.proofs.driver.Driver.data.Goals as goal
 
 pub returns-in-Err-Unknown-clause-takes : goal.returns-in-Err-Unknown-clause-takes
@@ -89,3 +91,31 @@ returns-in-Err-InUse-clause-plainly g c = λ alone end p.
 
 pub returns-in-Err-NoMemory-clause-plainly : goal.returns-in-Err-NoMemory-clause-plainly
 returns-in-Err-NoMemory-clause-plainly g c = λ alone end p plain granted unit server server' now spares stays talks come. tt
+
+pub returns-in-Ok-clause-acts : goal.returns-in-Ok-clause-acts
+returns-in-Ok-clause-acts g c = λ shared end.
+    let old = (acting c.args.self.now shared end g.O.WindowPort.is_shared (g.O.WindowPort.state c.args.own.now)) in
+    let new = (acting (record c.args.self.now { client = c.data_of.new.self }) shared end g.O.WindowPort.is_shared (g.O.WindowPort.state c.data_of.new.own)) in
+    data_acts c.args.tag old new c.data_of.result (Ok c.in-Ok.bytes) (steps.Ends (outcomes.Data c.len.result c.sum_of.result)) (reads_acts old new c.data_of.ensures.same refl refl c.data_of.ensures.rest)
+    c.data_of.ensures.unknown c.data_of.ensures.given c.data_of.ensures.why (search rules) (data_said c.in-Ok.bytes c.len.result c.sum_of.result (search rules) (search rules))
+
+pub returns-in-Err-Unknown-clause-acts : goal.returns-in-Err-Unknown-clause-acts
+returns-in-Err-Unknown-clause-acts g c = λ shared end.
+    let old = (acting c.args.self.now shared end g.O.WindowPort.is_shared (g.O.WindowPort.state c.args.own.now)) in
+    let new = (acting (record c.args.self.now { client = c.data_of.new.self }) shared end g.O.WindowPort.is_shared (g.O.WindowPort.state c.data_of.new.own)) in
+    data_acts c.args.tag old new c.data_of.result (Err faults.Unknown) (steps.Ends outcomes.Unknown) (reads_acts old new c.data_of.ensures.same refl refl c.data_of.ensures.rest)
+    c.data_of.ensures.unknown c.data_of.ensures.given c.data_of.ensures.why (search rules) refl
+
+pub returns-in-Err-Stale-clause-acts : goal.returns-in-Err-Stale-clause-acts
+returns-in-Err-Stale-clause-acts g c = λ shared end.
+    let old = (acting c.args.self.now shared end g.O.WindowPort.is_shared (g.O.WindowPort.state c.args.own.now)) in
+    let new = (acting (record c.args.self.now { client = c.data_of.new.self }) shared end g.O.WindowPort.is_shared (g.O.WindowPort.state c.data_of.new.own)) in
+    data_acts c.args.tag old new c.data_of.result (Err (faults.Stale c.in-Err-Stale.page)) (steps.Ends (outcomes.Stale c.in-Err-Stale.page)) (reads_acts old new c.data_of.ensures.same refl refl c.data_of.ensures.rest)
+    c.data_of.ensures.unknown c.data_of.ensures.given c.data_of.ensures.why (search rules) refl
+
+pub returns-in-Err-InUse-clause-acts : goal.returns-in-Err-InUse-clause-acts
+returns-in-Err-InUse-clause-acts g c = λ shared end.
+    let old = (acting c.args.self.now shared end g.O.WindowPort.is_shared (g.O.WindowPort.state c.args.own.now)) in
+    let new = (acting (record c.args.self.now { client = c.data_of.new.self }) shared end g.O.WindowPort.is_shared (g.O.WindowPort.state c.data_of.new.own)) in
+    data_acts c.args.tag old new c.data_of.result (Err (faults.InUse c.in-Err-InUse.field-0-0 c.in-Err-InUse.field-0-1)) (steps.Waits Quiet) (reads_acts old new c.data_of.ensures.same refl refl c.data_of.ensures.rest)
+    c.data_of.ensures.unknown c.data_of.ensures.given c.data_of.ensures.why (search rules) tt

@@ -106,3 +106,6 @@ returns-clause-plainly g c = λ crq_alone own_alone.
     let a = site c.args.self.now.client (ports g.C.CrqEnd.is_shared (g.C.CrqEnd.state c.args.crq.now.end) g.O.WindowPort.is_shared (g.O.WindowPort.state c.args.own.now)) in
     let b = site c.login_turn.new.self (ports g.C.CrqEnd.is_shared (g.C.CrqEnd.state c.login_turn.new.crq.end) g.O.WindowPort.is_shared (g.O.WindowPort.state c.login_turn.new.own)) in
     logs_in_plainly c.args.line a b c.args.self.now.answers.items c.in_ok-turn.turn c.turned.result crq_alone own_alone c.in_ok-turn.ensures.turned c.turned.ensures
+
+pub returns-clause-acts : goal.returns-clause-acts
+returns-clause-acts g c = record { turn = c.in_ok-turn.turn; turned = c.in_ok-turn.ensures.turned; says = c.turned.ensures; answers = refl }

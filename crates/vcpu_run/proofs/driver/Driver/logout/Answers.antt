@@ -13,6 +13,8 @@ use Rattle.vcpu_run.proofs.EventsHeard.{sent_none}
 use Rattle.vcpu_run.proofs.Giving.{asks_hear}
 use Rattle.vcpu_run.specs.PlainSteps.{own_by, own_of}
 use Rattle.vcpu_run.proofs.PlainRequests.{logout_plainly}
+use Rattle.vcpu_run.specs.Acts.{acting}
+use Rattle.vcpu_run.proofs.ActsAsking.{logout_acts}
 use Rattle.vcpu_run.proofs.driver.Driver.logout.Goals as goal
 
 pub returns-clause-works : goal.returns-clause-works
@@ -91,3 +93,9 @@ returns-clause-plainly g c =
     (own_by c.logout.new.self c.args.self.now.answers.items (g.C.CrqEnd.state c.logout.new.crq.end) (g.O.WindowPort.state c.logout.new.own))
     c.logout.result c.sent.result refl c.sent.ensures.sent c.sent.ensures.why c.sent.ensures.memory c.logout.ensures.refused c.logout.ensures.same c.logout.ensures.sent c.logout.ensures.why
     c.logout.ensures.crq_rest c.logout.ensures.own_rest
+
+pub returns-clause-acts : goal.returns-clause-acts
+returns-clause-acts g c =
+    logout_acts c.args.line (acting c.args.self.now g.C.CrqEnd.is_shared (g.C.CrqEnd.state c.args.crq.now.end) g.O.WindowPort.is_shared (g.O.WindowPort.state c.args.own.now))
+    (acting (record c.args.self.now { client = c.logout.new.self }) g.C.CrqEnd.is_shared (g.C.CrqEnd.state c.logout.new.crq.end) g.O.WindowPort.is_shared (g.O.WindowPort.state c.logout.new.own))
+    c.logout.result c.sent.result refl c.sent.ensures.sent c.sent.ensures.why c.logout.ensures.refused c.logout.ensures.sent c.logout.ensures.why c.logout.ensures.same

@@ -28,13 +28,15 @@ use Rattle.std.proofs.Common.{◌≡◌, ◌≢◌, false, sym, true≢false}
 use Rattle.std.specs.Prelude.{Err}
 use Rattle.crq_session.specs.Answered.{Frees}
 use Rattle.crq_session.specs.EndState.{OnlyFrees}
-use Rattle.vio_num.specs.declared.hypervisor.Moved.TheVariants.{Moved}
+use Rattle.vio_num.specs.declared.hypervisor.Moved.TheVariants.{Moved, Quiet}
 use Rattle.vcpu_run.specs.EventsPut.{times_freed}
 use Rattle.vcpu_run.specs.PlainSteps.{StepsPlainly, own_of}
 use Rattle.vcpu_run.specs.declared.script.Progress.{Progress}
 use Rattle.vcpu_run.proofs.PlainAside.{steps_err}
 use Rattle.vcpu_run.proofs.PlainOpens.{reserves_on}
 use Rattle.vcpu_run.proofs.PlainResets.{renews_steps, resets_plainly, resets_unregistered, unfreed}
+use Rattle.vcpu_run.specs.Acts.{acting}
+use Rattle.vcpu_run.proofs.ActsLines.{free_acts, frees_acts, renews_acts, used_acts}
 use Rattle.vcpu_run.proofs.driver.Driver.reset.Goals as goal
 
 pub returns-then-eq-clause-credit : goal.returns-then-eq-clause-credit
@@ -212,3 +214,30 @@ returns-in-Parameter-clause-plainly g c = λ crq_alone own_alone.
 
 pub returns-in-Busy-clause-plainly : goal.returns-in-Busy-clause-plainly
 returns-in-Busy-clause-plainly g c = λ crq_alone own_alone. absurd (true≢false (sym c.in-Busy.ensures.busy.shared_end ∙ crq_alone))
+
+pub returns-then-eq-clause-acts : goal.returns-then-eq-clause-acts
+returns-then-eq-clause-acts g c =
+    renews_acts c.args.line c.args.progress.now (acting c.args.self.now g.C.CrqEnd.is_shared (g.C.CrqEnd.state c.args.crq.now.end) g.O.WindowPort.is_shared (g.O.WindowPort.state c.args.own.now))
+    (acting c.login.new.self g.C.CrqEnd.is_shared (g.C.CrqEnd.state c.login.new.crq.end) g.O.WindowPort.is_shared (g.O.WindowPort.state c.login.new.own)) c.login.result (search rules) c.login.ensures.acts
+
+pub returns-in-Success-clause-acts : goal.returns-in-Success-clause-acts
+returns-in-Success-clause-acts g c =
+    frees_acts c.args.line c.args.progress.now (acting c.args.self.now g.C.CrqEnd.is_shared (g.C.CrqEnd.state c.args.crq.now.end) g.O.WindowPort.is_shared (g.O.WindowPort.state c.args.own.now))
+    (acting c.freed.new.self g.C.CrqEnd.is_shared (g.C.CrqEnd.state c.free.new.self.end) g.O.WindowPort.is_shared (g.O.WindowPort.state c.args.own.now)) (g.C.CrqEnd.state c.reserve.new.self.end) Moved (unfreed c.args.progress.now (search rules))
+    c.in_ok-reserve.ensures.rest c.in-Success.ensures.success c.free.ensures.rest refl c.freed.ensures.client (ap (λ answers. answers.items) c.freed.ensures.answers)
+
+pub returns-in-Parameter-clause-acts : goal.returns-in-Parameter-clause-acts
+returns-in-Parameter-clause-acts g c =
+    let first = g.C.CrqEnd.state c.args.crq.now.end in
+    let room = g.C.CrqEnd.state c.reserve.new.self.end in
+    let end = g.C.CrqEnd.state c.free.new.self.end in
+    free_acts c.args.line c.args.progress.now (acting c.args.self.now g.C.CrqEnd.is_shared (g.C.CrqEnd.state c.args.crq.now.end) g.O.WindowPort.is_shared (g.O.WindowPort.state c.args.own.now))
+    (acting c.login-in-Parameter.new.self g.C.CrqEnd.is_shared (g.C.CrqEnd.state c.login-in-Parameter.new.crq.end) g.O.WindowPort.is_shared (g.O.WindowPort.state c.login-in-Parameter.new.own)) end c.login-in-Parameter.result
+    (unfreed c.args.progress.now (search rules)) (reserves_on first room end c.in_ok-reserve.ensures.rest c.in-Parameter.ensures.refused)
+    (c.in-Parameter.ensures.refused.registered ∙ c.free.ensures.parameter.0 c.in-Parameter.is) c.login-in-Parameter.ensures.acts
+
+pub returns-in-Busy-clause-acts : goal.returns-in-Busy-clause-acts
+returns-in-Busy-clause-acts g c =
+    used_acts c.args.line c.args.progress.now (acting c.args.self.now g.C.CrqEnd.is_shared (g.C.CrqEnd.state c.args.crq.now.end) g.O.WindowPort.is_shared (g.O.WindowPort.state c.args.own.now))
+    (acting c.args.self.now g.C.CrqEnd.is_shared (g.C.CrqEnd.state c.free.new.self.end) g.O.WindowPort.is_shared (g.O.WindowPort.state c.args.own.now)) (g.C.CrqEnd.state c.reserve.new.self.end) _ Quiet (unfreed c.args.progress.now (search rules))
+    c.in_ok-reserve.ensures.rest c.in-Busy.ensures.busy c.free.ensures.rest refl refl refl

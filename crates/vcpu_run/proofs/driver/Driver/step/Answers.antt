@@ -43,6 +43,9 @@ use Rattle.vcpu_run.proofs.Calming.{calm_same}
 use Rattle.vcpu_run.specs.PlainSteps.{own_of}
 use Rattle.vcpu_run.proofs.PlainAside.{fill_plainly, peek_plainly, poke_plainly, steps_as, tce_plainly}
 use Rattle.vcpu_run.proofs.PlainResets.{login_steps}
+use Rattle.vcpu_run.specs.Acts.{acting}
+use Rattle.vcpu_run.proofs.ActsAsking.{op_acts}
+use Rattle.vcpu_run.proofs.ActsLines.{acts_as, puts_acts, shows_acts, stays_aside, writes_acts}
 use Rattle.vcpu_run.proofs.driver.Driver.step.Goals as goal
 
 pub returns-in-Some-clause-credit : goal.returns-in-Some-clause-credit
@@ -71,9 +74,7 @@ returns-in-Some-clause-registered g c = λ alone.
     c.command.result (asks_plain c.args.line.now.verb (asks_by c.args.line.now.verb c.in-Some.op c.in-Some.ensures.command)).1
 
 pub returns-in-Some-clause-takes : goal.returns-in-Some-clause-takes
-returns-in-Some-clause-takes g c =
-    none_taken c.args.line.now.verb (taken_in c.args.progress.now) c.args.self.now c.command.new.self c.command.result (sends_one c.args.line.now.verb c.in-Some.ensures.sends).1
-    (c.command.ensures.takes c.args.line.now.verb c.in-Some.ensures.command)
+returns-in-Some-clause-takes g c = none_taken c.args.line.now.verb (taken_in c.args.progress.now) c.args.self.now c.command.new.self c.command.result (sends_one c.args.line.now.verb c.in-Some.ensures.sends).1 (c.command.ensures.takes c.args.line.now.verb c.in-Some.ensures.command)
 
 pub returns-in-Some-clause-puts : goal.returns-in-Some-clause-puts
 returns-in-Some-clause-puts g c = same_puts c.args.line.now.verb c.command.result _ _ (sends_none c.args.line.now.verb c.in-Some.ensures.sends) c.command.ensures.values
@@ -93,14 +94,10 @@ pub returns-in-Some-clause-shut : goal.returns-in-Some-clause-shut
 returns-in-Some-clause-shut g c = c.command.ensures.shut c.args.line.now.verb c.in-Some.ensures.command
 
 pub returns-in-Some-clause-frees : goal.returns-in-Some-clause-frees
-returns-in-Some-clause-frees g c =
-    plain_makes (is_reset c.args.line.now.verb) c.args.progress.now _ (g.C.CrqEnd.state c.args.crq.now.end) (g.C.CrqEnd.state c.command.new.crq.end)
-    (asks_plain c.args.line.now.verb (asks_by c.args.line.now.verb c.in-Some.op c.in-Some.ensures.command)).1 (c.command.ensures.works.calm refl)
+returns-in-Some-clause-frees g c = plain_makes (is_reset c.args.line.now.verb) c.args.progress.now _ (g.C.CrqEnd.state c.args.crq.now.end) (g.C.CrqEnd.state c.command.new.crq.end) (asks_plain c.args.line.now.verb (asks_by c.args.line.now.verb c.in-Some.op c.in-Some.ensures.command)).1 (c.command.ensures.works.calm refl)
 
 pub returns-in-Some-clause-works : goal.returns-in-Some-clause-works
-returns-in-Some-clause-works g c =
-    let mark : c.from-mark.result ≡ c.args.line.now.number = search rules in
-    works_as _ _ _ _ _ _ _ _ _ _ _ _ (sym (asks_plain c.args.line.now.verb (asks_by c.args.line.now.verb c.in-Some.op c.in-Some.ensures.command)).1) mark c.command.ensures.works
+returns-in-Some-clause-works g c = let mark : c.from-mark.result ≡ c.args.line.now.number = search rules in works_as _ _ _ _ _ _ _ _ _ _ _ _ (sym (asks_plain c.args.line.now.verb (asks_by c.args.line.now.verb c.in-Some.op c.in-Some.ensures.command)).1) mark c.command.ensures.works
 
 pub returns-in-Some-clause-region : goal.returns-in-Some-clause-region
 returns-in-Some-clause-region g c = not_in_region g.O.WindowPort.is_shared c.args.line.now (g.O.WindowPort.state c.args.own.now) (g.O.WindowPort.state c.command.new.own) c.command.result (sends_apart c.args.line.now.verb c.in-Some.ensures.sends)
@@ -109,12 +106,10 @@ pub returns-in-Login-clause-credit : goal.returns-in-Login-clause-credit
 returns-in-Login-clause-credit g c = fresh_both c.args.line.now.verb (taken_in c.args.progress.now) c.args.self.now.client c.login.new.self.client c.login.result (ap is_take c.in-Login.is) (c.login.ensures.credit c.args.line.now.verb)
 
 pub returns-in-Logout-clause-credit : goal.returns-in-Logout-clause-credit
-returns-in-Logout-clause-credit g c =
-    fresh_both c.args.line.now.verb (taken_in c.args.progress.now) c.args.self.now.client c.logout.new.self.client c.logout.result (ap is_take c.in-Logout.is) (c.logout.ensures.credit c.args.line.now.verb (ap uses_credit c.in-Logout.is))
+returns-in-Logout-clause-credit g c = fresh_both c.args.line.now.verb (taken_in c.args.progress.now) c.args.self.now.client c.logout.new.self.client c.logout.result (ap is_take c.in-Logout.is) (c.logout.ensures.credit c.args.line.now.verb (ap uses_credit c.in-Logout.is))
 
 pub returns-in-Task-clause-credit : goal.returns-in-Task-clause-credit
-returns-in-Task-clause-credit g c =
-    fresh_both c.args.line.now.verb (taken_in c.args.progress.now) c.args.self.now.client c.task.new.self.client c.task.result (ap is_take c.in-Task.is) (c.task.ensures.credit c.args.line.now.verb (ap uses_credit c.in-Task.is))
+returns-in-Task-clause-credit g c = fresh_both c.args.line.now.verb (taken_in c.args.progress.now) c.args.self.now.client c.task.new.self.client c.task.result (ap is_take c.in-Task.is) (c.task.ensures.credit c.args.line.now.verb (ap uses_credit c.in-Task.is))
 
 pub returns-in-Login-clause-told : goal.returns-in-Login-clause-told
 returns-in-Login-clause-told g c =
@@ -234,22 +229,16 @@ returns-in-Tce-clause-out g c = λ alone.
     c.put_tce.result (ap is_reset c.in-Tce.is)
 
 pub returns-in-Login-clause-shows : goal.returns-in-Login-clause-shows
-returns-in-Login-clause-shows g c =
-    c.login.ensures.shows c.requires.slots (g.O.WindowPort.state c.args.own.now).place.unit c.args.line.now.number c.args.line.now.verb (ap requests c.in-Login.is) (ap written_by c.in-Login.is) (ap read_by c.in-Login.is) (ap further_of c.in-Login.is)
+returns-in-Login-clause-shows g c = c.login.ensures.shows c.requires.slots (g.O.WindowPort.state c.args.own.now).place.unit c.args.line.now.number c.args.line.now.verb (ap requests c.in-Login.is) (ap written_by c.in-Login.is) (ap read_by c.in-Login.is) (ap further_of c.in-Login.is)
 
 pub returns-in-Reset-clause-shows : goal.returns-in-Reset-clause-shows
-returns-in-Reset-clause-shows g c =
-    c.reset.ensures.shows c.requires.slots (g.O.WindowPort.state c.args.own.now).place.unit c.args.line.now.number c.args.line.now.verb (ap requests c.in-Reset.is) (ap written_by c.in-Reset.is) (ap read_by c.in-Reset.is) (ap further_of c.in-Reset.is)
+returns-in-Reset-clause-shows g c = c.reset.ensures.shows c.requires.slots (g.O.WindowPort.state c.args.own.now).place.unit c.args.line.now.number c.args.line.now.verb (ap requests c.in-Reset.is) (ap written_by c.in-Reset.is) (ap read_by c.in-Reset.is) (ap further_of c.in-Reset.is)
 
 pub returns-in-Take-clause-shows : goal.returns-in-Take-clause-shows
-returns-in-Take-clause-shows g c =
-    step_none (seen_since g.C.CrqEnd.is_shared (g.O.WindowPort.state c.take_on.new.own) (g.C.CrqEnd.state c.args.crq.now.end) (g.C.CrqEnd.state c.take_on.new.crq.end)) (g.O.WindowPort.state c.args.own.now).place.unit c.args.line.now.number c.args.line.now.verb
-    c.take_on.result (ap requests c.in-Take.is) (ap written_by c.in-Take.is) (ap read_by c.in-Take.is) (ap further_of c.in-Take.is)
+returns-in-Take-clause-shows g c = step_none (seen_since g.C.CrqEnd.is_shared (g.O.WindowPort.state c.take_on.new.own) (g.C.CrqEnd.state c.args.crq.now.end) (g.C.CrqEnd.state c.take_on.new.crq.end)) (g.O.WindowPort.state c.args.own.now).place.unit c.args.line.now.number c.args.line.now.verb c.take_on.result (ap requests c.in-Take.is) (ap written_by c.in-Take.is) (ap read_by c.in-Take.is) (ap further_of c.in-Take.is)
 
 pub returns-in-Data-clause-shows : goal.returns-in-Data-clause-shows
-returns-in-Data-clause-shows g c =
-    step_none (seen_since g.C.CrqEnd.is_shared (g.O.WindowPort.state c.data.new.own) (g.C.CrqEnd.state c.args.crq.now.end) (g.C.CrqEnd.state c.args.crq.now.end)) (g.O.WindowPort.state c.args.own.now).place.unit c.args.line.now.number c.args.line.now.verb
-    c.data.result (ap requests c.in-Data.is) (ap written_by c.in-Data.is) (ap read_by c.in-Data.is) (ap further_of c.in-Data.is)
+returns-in-Data-clause-shows g c = step_none (seen_since g.C.CrqEnd.is_shared (g.O.WindowPort.state c.data.new.own) (g.C.CrqEnd.state c.args.crq.now.end) (g.C.CrqEnd.state c.args.crq.now.end)) (g.O.WindowPort.state c.args.own.now).place.unit c.args.line.now.number c.args.line.now.verb c.data.result (ap requests c.in-Data.is) (ap written_by c.in-Data.is) (ap read_by c.in-Data.is) (ap further_of c.in-Data.is)
 
 pub returns-in-Peek-clause-shows : goal.returns-in-Peek-clause-shows
 returns-in-Peek-clause-shows g c =
@@ -445,8 +434,7 @@ pub returns-in-Peek-clause-puts : goal.returns-in-Peek-clause-puts
 returns-in-Peek-clause-puts g c = same_puts c.args.line.now.verb c.peek.result _ _ (ap is_put c.in-Peek.is) c.peek.ensures.rest.values
 
 pub returns-in-Tce-clause-puts : goal.returns-in-Tce-clause-puts
-returns-in-Tce-clause-puts g c =
-    tce_puts c.in-Tce.entry c.in-Tce.page c.in-Tce.readable c.in-Tce.writable (g.O.WindowPort.state c.args.own.now) (g.O.WindowPort.state c.put_tce.new.own) c.args.line.now.verb c.put_tce.result c.in-Tce.is c.put_tce.ensures.answer
+returns-in-Tce-clause-puts g c = tce_puts c.in-Tce.entry c.in-Tce.page c.in-Tce.readable c.in-Tce.writable (g.O.WindowPort.state c.args.own.now) (g.O.WindowPort.state c.put_tce.new.own) c.args.line.now.verb c.put_tce.result c.in-Tce.is c.put_tce.ensures.answer
 
 pub returns-in-Login-clause-reads : goal.returns-in-Login-clause-reads
 returns-in-Login-clause-reads g c = λ alone.
@@ -587,24 +575,19 @@ pub returns-in-Take-clause-frees : goal.returns-in-Take-clause-frees
 returns-in-Take-clause-frees g c = plain_makes (is_reset c.args.line.now.verb) c.args.progress.now _ (g.C.CrqEnd.state c.args.crq.now.end) (g.C.CrqEnd.state c.take_on.new.crq.end) (ap is_reset c.in-Take.is) (c.take_on.ensures.works.calm refl)
 
 pub returns-in-Data-clause-frees : goal.returns-in-Data-clause-frees
-returns-in-Data-clause-frees g c =
-    plain_makes (is_reset c.args.line.now.verb) c.args.progress.now _ (g.C.CrqEnd.state c.args.crq.now.end) (g.C.CrqEnd.state c.args.crq.now.end) (ap is_reset c.in-Data.is) (calm_same (g.C.CrqEnd.state c.args.crq.now.end) (g.C.CrqEnd.state c.args.crq.now.end) refl refl)
+returns-in-Data-clause-frees g c = plain_makes (is_reset c.args.line.now.verb) c.args.progress.now _ (g.C.CrqEnd.state c.args.crq.now.end) (g.C.CrqEnd.state c.args.crq.now.end) (ap is_reset c.in-Data.is) (calm_same (g.C.CrqEnd.state c.args.crq.now.end) (g.C.CrqEnd.state c.args.crq.now.end) refl refl)
 
 pub returns-in-Fill-clause-frees : goal.returns-in-Fill-clause-frees
-returns-in-Fill-clause-frees g c =
-    plain_makes (is_reset c.args.line.now.verb) c.args.progress.now _ (g.C.CrqEnd.state c.args.crq.now.end) (g.C.CrqEnd.state c.args.crq.now.end) (ap is_reset c.in-Fill.is) (calm_same (g.C.CrqEnd.state c.args.crq.now.end) (g.C.CrqEnd.state c.args.crq.now.end) refl refl)
+returns-in-Fill-clause-frees g c = plain_makes (is_reset c.args.line.now.verb) c.args.progress.now _ (g.C.CrqEnd.state c.args.crq.now.end) (g.C.CrqEnd.state c.args.crq.now.end) (ap is_reset c.in-Fill.is) (calm_same (g.C.CrqEnd.state c.args.crq.now.end) (g.C.CrqEnd.state c.args.crq.now.end) refl refl)
 
 pub returns-in-Poke-clause-frees : goal.returns-in-Poke-clause-frees
-returns-in-Poke-clause-frees g c =
-    plain_makes (is_reset c.args.line.now.verb) c.args.progress.now _ (g.C.CrqEnd.state c.args.crq.now.end) (g.C.CrqEnd.state c.args.crq.now.end) (ap is_reset c.in-Poke.is) (calm_same (g.C.CrqEnd.state c.args.crq.now.end) (g.C.CrqEnd.state c.args.crq.now.end) refl refl)
+returns-in-Poke-clause-frees g c = plain_makes (is_reset c.args.line.now.verb) c.args.progress.now _ (g.C.CrqEnd.state c.args.crq.now.end) (g.C.CrqEnd.state c.args.crq.now.end) (ap is_reset c.in-Poke.is) (calm_same (g.C.CrqEnd.state c.args.crq.now.end) (g.C.CrqEnd.state c.args.crq.now.end) refl refl)
 
 pub returns-in-Peek-clause-frees : goal.returns-in-Peek-clause-frees
-returns-in-Peek-clause-frees g c =
-    plain_makes (is_reset c.args.line.now.verb) c.args.progress.now _ (g.C.CrqEnd.state c.args.crq.now.end) (g.C.CrqEnd.state c.args.crq.now.end) (ap is_reset c.in-Peek.is) (calm_same (g.C.CrqEnd.state c.args.crq.now.end) (g.C.CrqEnd.state c.args.crq.now.end) refl refl)
+returns-in-Peek-clause-frees g c = plain_makes (is_reset c.args.line.now.verb) c.args.progress.now _ (g.C.CrqEnd.state c.args.crq.now.end) (g.C.CrqEnd.state c.args.crq.now.end) (ap is_reset c.in-Peek.is) (calm_same (g.C.CrqEnd.state c.args.crq.now.end) (g.C.CrqEnd.state c.args.crq.now.end) refl refl)
 
 pub returns-in-Tce-clause-frees : goal.returns-in-Tce-clause-frees
-returns-in-Tce-clause-frees g c =
-    plain_makes (is_reset c.args.line.now.verb) c.args.progress.now _ (g.C.CrqEnd.state c.args.crq.now.end) (g.C.CrqEnd.state c.args.crq.now.end) (ap is_reset c.in-Tce.is) (calm_same (g.C.CrqEnd.state c.args.crq.now.end) (g.C.CrqEnd.state c.args.crq.now.end) refl refl)
+returns-in-Tce-clause-frees g c = plain_makes (is_reset c.args.line.now.verb) c.args.progress.now _ (g.C.CrqEnd.state c.args.crq.now.end) (g.C.CrqEnd.state c.args.crq.now.end) (ap is_reset c.in-Tce.is) (calm_same (g.C.CrqEnd.state c.args.crq.now.end) (g.C.CrqEnd.state c.args.crq.now.end) refl refl)
 
 pub returns-in-Reset-clause-frees : goal.returns-in-Reset-clause-frees
 returns-in-Reset-clause-frees g c = subst (λ b. StepMakes b c.args.progress.now c.reset.new.progress (g.C.CrqEnd.state c.args.crq.now.end) (g.C.CrqEnd.state c.reset.new.crq.end)) (sym (ap is_reset c.in-Reset.is)) c.reset.ensures.frees
@@ -672,12 +655,10 @@ pub returns-in-Tce-clause-shut : goal.returns-in-Tce-clause-shut
 returns-in-Tce-clause-shut g c = shut_none (MeetsShut g.C.CrqEnd.is_shared c.args.self.now.client (g.C.CrqEnd.state c.args.crq.now.end) (g.C.CrqEnd.state c.args.crq.now.end)) c.args.line.now.verb c.put_tce.result (ap requests c.in-Tce.is)
 
 pub returns-in-Logout-clause-shut : goal.returns-in-Logout-clause-shut
-returns-in-Logout-clause-shut g c =
-    subst (λ (v : Verb). StepShut (MeetsShut g.C.CrqEnd.is_shared c.args.self.now.client (g.C.CrqEnd.state c.args.crq.now.end) (g.C.CrqEnd.state c.logout.new.crq.end)) v c.logout.result) (sym c.in-Logout.is) c.logout.ensures.shut
+returns-in-Logout-clause-shut g c = subst (λ (v : Verb). StepShut (MeetsShut g.C.CrqEnd.is_shared c.args.self.now.client (g.C.CrqEnd.state c.args.crq.now.end) (g.C.CrqEnd.state c.logout.new.crq.end)) v c.logout.result) (sym c.in-Logout.is) c.logout.ensures.shut
 
 pub returns-in-Task-clause-shut : goal.returns-in-Task-clause-shut
-returns-in-Task-clause-shut g c =
-    subst (λ (v : Verb). StepShut (MeetsShut g.C.CrqEnd.is_shared c.args.self.now.client (g.C.CrqEnd.state c.args.crq.now.end) (g.C.CrqEnd.state c.task.new.crq.end)) v c.task.result) (sym c.in-Task.is) c.task.ensures.shut
+returns-in-Task-clause-shut g c = subst (λ (v : Verb). StepShut (MeetsShut g.C.CrqEnd.is_shared c.args.self.now.client (g.C.CrqEnd.state c.args.crq.now.end) (g.C.CrqEnd.state c.task.new.crq.end)) v c.task.result) (sym c.in-Task.is) c.task.ensures.shut
 
 pub returns-in-Login-clause-region : goal.returns-in-Login-clause-region
 returns-in-Login-clause-region g c = not_in_region g.O.WindowPort.is_shared c.args.line.now (g.O.WindowPort.state c.args.own.now) (g.O.WindowPort.state c.login.new.own) c.login.result (ap is_in_region c.in-Login.is)
@@ -783,3 +764,36 @@ pub returns-in-Tce-clause-plainly : goal.returns-in-Tce-clause-plainly
 returns-in-Tce-clause-plainly g c = λ crq_alone own_alone. steps_as c.args.line.now.verb _ c.args.progress.now c.args.progress.now (own_of c.args.self.now (g.C.CrqEnd.state c.args.crq.now.end) (g.O.WindowPort.state c.args.own.now)) (own_of c.args.self.now (g.C.CrqEnd.state c.args.crq.now.end) (g.O.WindowPort.state c.put_tce.new.own)) c.put_tce.result c.in-Tce.is
     (tce_plainly g.O.WindowPort.is_shared c.in-Tce.entry c.in-Tce.page c.in-Tce.readable c.in-Tce.writable c.args.progress.now (own_of c.args.self.now (g.C.CrqEnd.state c.args.crq.now.end) (g.O.WindowPort.state c.args.own.now)) (own_of c.args.self.now (g.C.CrqEnd.state c.args.crq.now.end) (g.O.WindowPort.state c.put_tce.new.own)) c.put_tce.result own_alone c.put_tce.ensures.plain refl refl refl
     c.put_tce.ensures.window.place c.put_tce.ensures.marks c.put_tce.ensures.answer)
+
+pub returns-in-Some-clause-acts : goal.returns-in-Some-clause-acts
+returns-in-Some-clause-acts g c = acts_as _ c.from-mark.result _ c.args.line.now.verb _ _ _ _ c.command.result (search rules) refl (op_acts c.from-mark.result c.args.line.now.verb c.in-Some.op c.args.progress.now c.args.progress.now _ _ c.command.result c.in-Some.ensures.sends c.in-Some.ensures.command c.in-Some.ensures.cdb c.command.ensures.acts)
+
+pub returns-in-Login-clause-acts : goal.returns-in-Login-clause-acts
+returns-in-Login-clause-acts g c = acts_as _ c.from-mark.result _ _ _ _ _ _ c.login.result (search rules) c.in-Login.is c.login.ensures.acts
+
+pub returns-in-Reset-clause-acts : goal.returns-in-Reset-clause-acts
+returns-in-Reset-clause-acts g c = acts_as _ c.from-mark.result _ _ _ _ _ _ c.reset.result (search rules) c.in-Reset.is c.reset.ensures.acts
+
+pub returns-in-Logout-clause-acts : goal.returns-in-Logout-clause-acts
+returns-in-Logout-clause-acts g c = acts_as _ c.from-mark.result _ _ _ _ _ _ c.logout.result (search rules) c.in-Logout.is c.logout.ensures.acts
+
+pub returns-in-Task-clause-acts : goal.returns-in-Task-clause-acts
+returns-in-Task-clause-acts g c = acts_as _ c.from-mark.result _ _ _ _ _ _ c.task.result (search rules) c.in-Task.is c.task.ensures.acts
+
+pub returns-in-Take-clause-acts : goal.returns-in-Take-clause-acts
+returns-in-Take-clause-acts g c = acts_as _ c.from-mark.result _ _ _ _ _ _ c.take_on.result (search rules) c.in-Take.is c.take_on.ensures.acts
+
+pub returns-in-Data-clause-acts : goal.returns-in-Data-clause-acts
+returns-in-Data-clause-acts g c = acts_as _ c.from-mark.result _ _ _ _ _ _ c.data.result (search rules) c.in-Data.is (c.data.ensures.acts g.C.CrqEnd.is_shared (g.C.CrqEnd.state c.args.crq.now.end))
+
+pub returns-in-Fill-clause-acts : goal.returns-in-Fill-clause-acts
+returns-in-Fill-clause-acts g c = acts_as _ c.from-mark.result _ _ _ _ _ _ c.fill.result (search rules) c.in-Fill.is (writes_acts c.from-mark.result c.in-Fill.at (pattern c.in-Fill.seed c.in-Fill.len) _ _ c.fill.result (stays_aside _ _ refl refl refl) c.fill.ensures.rest c.fill.ensures.lays c.fill.ensures.answer)
+
+pub returns-in-Poke-clause-acts : goal.returns-in-Poke-clause-acts
+returns-in-Poke-clause-acts g c = acts_as _ c.from-mark.result _ (verbs.Poke c.in-Poke.at c.as_slice.result.now) _ _ _ _ c.poke.result (search rules) (c.in-Poke.is ∙ ap (λ (bytes : List ℕ). verbs.Poke c.in-Poke.at bytes) (sym c.as_slice.ensures)) (writes_acts c.from-mark.result c.in-Poke.at c.as_slice.result.now _ _ c.poke.result (stays_aside _ _ refl refl refl) c.poke.ensures.rest c.poke.ensures.lays c.poke.ensures.answer)
+
+pub returns-in-Peek-clause-acts : goal.returns-in-Peek-clause-acts
+returns-in-Peek-clause-acts g c = acts_as _ c.from-mark.result _ _ _ _ _ _ c.peek.result (search rules) c.in-Peek.is (shows_acts c.in-Peek.at c.in-Peek.len _ _ c.peek.result (stays_aside _ _ refl refl refl) c.peek.ensures.rest c.peek.ensures.answer)
+
+pub returns-in-Tce-clause-acts : goal.returns-in-Tce-clause-acts
+returns-in-Tce-clause-acts g c = acts_as _ c.from-mark.result _ _ _ _ _ _ c.put_tce.result (search rules) c.in-Tce.is (puts_acts c.in-Tce.entry (tce_of c.in-Tce.page c.in-Tce.readable c.in-Tce.writable) _ _ c.put_tce.result (stays_aside _ _ refl refl refl) c.put_tce.ensures.window c.put_tce.ensures.marks c.put_tce.ensures.answer)

@@ -23,6 +23,8 @@ use Rattle.vcpu_run.specs.PlainSteps.{TakesPlainly, own_of}
 use Rattle.vcpu_run.specs.declared.taking.Took.TheVariants as tooks
 use Rattle.vcpu_run.proofs.PlainAside.{steps_err}
 use Rattle.vcpu_run.proofs.PlainCounting.{TakesSoFar, another, ends_full, ends_never, ends_none, ends_sooner, none_yet, one_more, waits_none}
+use Rattle.vcpu_run.specs.Acts.{TakesOnce, acting}
+use Rattle.vcpu_run.proofs.ActsTaking.{TakingSo, line_ended, line_full, line_lost, line_slots, line_used, line_waits, line_wanted, taking_answer, taking_none, taking_other}
 use Rattle.vcpu_run.proofs.driver.Driver.take.Goals as goal
 
 pub returns-in_err-take_one-clause-works : goal.returns-in_err-take_one-clause-works
@@ -75,7 +77,9 @@ loop-entry-preserved g c =
     × TakesThem c.args.taken.now c.match-branch-2.taken c.args.self.now c.take_one.new.self
     × (g.C.CrqEnd.is_shared ≡ false → g.O.WindowPort.is_shared ≡ false → TakesSoFar c.args.count c.args.taken.now c.match-branch-2.taken (c.loop-entry._entry + 1)
     (own_of c.args.self.now (g.C.CrqEnd.state c.args.crq.now.end) (g.O.WindowPort.state c.args.own.now))
-    (own_of c.take_one.new.self (g.C.CrqEnd.state c.take_one.new.crq.end) (g.O.WindowPort.state c.take_one.new.own))) =
+    (own_of c.take_one.new.self (g.C.CrqEnd.state c.take_one.new.crq.end) (g.O.WindowPort.state c.take_one.new.own)))
+    × TakingSo c.args.taken.now c.match-branch-2.taken (c.loop-entry._entry + 1) (acting c.args.self.now g.C.CrqEnd.is_shared (g.C.CrqEnd.state c.args.crq.now.end) g.O.WindowPort.is_shared (g.O.WindowPort.state c.args.own.now))
+    (acting c.take_one.new.self g.C.CrqEnd.is_shared (g.C.CrqEnd.state c.take_one.new.crq.end) g.O.WindowPort.is_shared (g.O.WindowPort.state c.take_one.new.own)) =
     elim c.match-branch-2.branch [
       | in-Answer+else-taken-count-2 w ↦ (
         subst (λ n. TakesOn c.args.taken.now n c.args.self.now.client c.take_one.new.self.client) (sym w.taken-is)
@@ -98,6 +102,12 @@ loop-entry-preserved g c =
             (own_of c.loop-entry.self (g.C.CrqEnd.state c.loop-entry.crq.end) (g.O.WindowPort.state c.loop-entry.own))
             (own_of c.take_one.new.self (g.C.CrqEnd.state c.take_one.new.crq.end) (g.O.WindowPort.state c.take_one.new.own)) c.loop-entry.invariant.less (c.loop-entry.invariant.plainly crq_alone own_alone) (subst (λ (t : Took). TakesPlainly t (own_of c.loop-entry.self (g.C.CrqEnd.state c.loop-entry.crq.end) (g.O.WindowPort.state c.loop-entry.own))
             (own_of c.take_one.new.self (g.C.CrqEnd.state c.take_one.new.crq.end) (g.O.WindowPort.state c.take_one.new.own))) w.in-Answer.is (c.in_ok-take_one.ensures.plainly crq_alone own_alone))),
+        subst (λ (n : ℕ). TakingSo c.args.taken.now n (c.loop-entry._entry + 1) (acting c.args.self.now g.C.CrqEnd.is_shared (g.C.CrqEnd.state c.args.crq.now.end) g.O.WindowPort.is_shared (g.O.WindowPort.state c.args.own.now))
+            (acting c.take_one.new.self g.C.CrqEnd.is_shared (g.C.CrqEnd.state c.take_one.new.crq.end) g.O.WindowPort.is_shared (g.O.WindowPort.state c.take_one.new.own))) (sym (omega (arith, w.taken-is, w.saturating_add.ensures, c.loop-entry.invariant.less, c.ranges.count.fits)))
+            (taking_answer c.args.taken.now c.loop-entry.taken c.loop-entry._entry (acting c.args.self.now g.C.CrqEnd.is_shared (g.C.CrqEnd.state c.args.crq.now.end) g.O.WindowPort.is_shared (g.O.WindowPort.state c.args.own.now))
+            (acting c.loop-entry.self g.C.CrqEnd.is_shared (g.C.CrqEnd.state c.loop-entry.crq.end) g.O.WindowPort.is_shared (g.O.WindowPort.state c.loop-entry.own))
+            (acting c.take_one.new.self g.C.CrqEnd.is_shared (g.C.CrqEnd.state c.take_one.new.crq.end) g.O.WindowPort.is_shared (g.O.WindowPort.state c.take_one.new.own)) c.loop-entry.invariant.acts (subst (λ (t : Took). TakesOnce t (acting c.loop-entry.self g.C.CrqEnd.is_shared (g.C.CrqEnd.state c.loop-entry.crq.end) g.O.WindowPort.is_shared (g.O.WindowPort.state c.loop-entry.own))
+            (acting c.take_one.new.self g.C.CrqEnd.is_shared (g.C.CrqEnd.state c.take_one.new.crq.end) g.O.WindowPort.is_shared (g.O.WindowPort.state c.take_one.new.own))) w.in-Answer.is c.in_ok-take_one.ensures.acts)),
       )
       | in-Other w ↦ (
         subst (λ n. TakesOn c.args.taken.now n c.args.self.now.client c.take_one.new.self.client) (sym w.taken-is)
@@ -115,6 +125,12 @@ loop-entry-preserved g c =
             (own_of c.loop-entry.self (g.C.CrqEnd.state c.loop-entry.crq.end) (g.O.WindowPort.state c.loop-entry.own))
             (own_of c.take_one.new.self (g.C.CrqEnd.state c.take_one.new.crq.end) (g.O.WindowPort.state c.take_one.new.own)) (c.loop-entry.invariant.plainly crq_alone own_alone) (subst (λ (t : Took). TakesPlainly t (own_of c.loop-entry.self (g.C.CrqEnd.state c.loop-entry.crq.end) (g.O.WindowPort.state c.loop-entry.own))
             (own_of c.take_one.new.self (g.C.CrqEnd.state c.take_one.new.crq.end) (g.O.WindowPort.state c.take_one.new.own))) w.in-Other.is (c.in_ok-take_one.ensures.plainly crq_alone own_alone)),
+        subst (λ (n : ℕ). TakingSo c.args.taken.now n (c.loop-entry._entry + 1) (acting c.args.self.now g.C.CrqEnd.is_shared (g.C.CrqEnd.state c.args.crq.now.end) g.O.WindowPort.is_shared (g.O.WindowPort.state c.args.own.now))
+            (acting c.take_one.new.self g.C.CrqEnd.is_shared (g.C.CrqEnd.state c.take_one.new.crq.end) g.O.WindowPort.is_shared (g.O.WindowPort.state c.take_one.new.own))) (sym w.taken-is)
+            (taking_other c.args.taken.now c.loop-entry.taken c.loop-entry._entry (acting c.args.self.now g.C.CrqEnd.is_shared (g.C.CrqEnd.state c.args.crq.now.end) g.O.WindowPort.is_shared (g.O.WindowPort.state c.args.own.now))
+            (acting c.loop-entry.self g.C.CrqEnd.is_shared (g.C.CrqEnd.state c.loop-entry.crq.end) g.O.WindowPort.is_shared (g.O.WindowPort.state c.loop-entry.own))
+            (acting c.take_one.new.self g.C.CrqEnd.is_shared (g.C.CrqEnd.state c.take_one.new.crq.end) g.O.WindowPort.is_shared (g.O.WindowPort.state c.take_one.new.own)) c.loop-entry.invariant.acts (subst (λ (t : Took). TakesOnce t (acting c.loop-entry.self g.C.CrqEnd.is_shared (g.C.CrqEnd.state c.loop-entry.crq.end) g.O.WindowPort.is_shared (g.O.WindowPort.state c.loop-entry.own))
+            (acting c.take_one.new.self g.C.CrqEnd.is_shared (g.C.CrqEnd.state c.take_one.new.crq.end) g.O.WindowPort.is_shared (g.O.WindowPort.state c.take_one.new.own))) w.in-Other.is c.in_ok-take_one.ensures.acts)),
       )
     ] in
     record {
@@ -127,6 +143,7 @@ loop-entry-preserved g c =
       less = next.1;
       them = next.3;
       plainly = next.4;
+      acts = next.5;
       gives = gives_on c.args.self.now c.loop-entry.self c.take_one.new.self (g.C.CrqEnd.state c.args.crq.now.end) (g.C.CrqEnd.state c.loop-entry.crq.end) (g.C.CrqEnd.state c.take_one.new.crq.end)
           c.loop-entry.invariant.gives c.in_ok-take_one.ensures.gives;
     }
@@ -283,6 +300,7 @@ loop-entry-init g c = record {
   them = λ now agrees. agrees;
   plainly = λ crq_alone own_alone. none_yet c.args.count c.args.taken.now (own_of c.args.self.now (g.C.CrqEnd.state c.args.crq.now.end) (g.O.WindowPort.state c.args.own.now));
   gives = gives_same c.args.self.now (g.C.CrqEnd.state c.args.crq.now.end);
+  acts = taking_none c.args.taken.now (acting c.args.self.now g.C.CrqEnd.is_shared (g.C.CrqEnd.state c.args.crq.now.end) g.O.WindowPort.is_shared (g.O.WindowPort.state c.args.own.now));
 }
 
 pub returns-then-taken-count-clause-plainly : goal.returns-then-taken-count-clause-plainly
@@ -341,3 +359,53 @@ pub returns-in_err-take_one-clause-plainly : goal.returns-in_err-take_one-clause
 returns-in_err-take_one-clause-plainly g c =
     let same : c.from_residual.result ≡ Err c.in_err-take_one.field-0.0 = search rules in
     λ crq_alone own_alone p is. steps_err (verbs.Take c.args.count) p (stages.Took c.loop-entry.taken) (own_of c.args.self.now (g.C.CrqEnd.state c.args.crq.now.end) (g.O.WindowPort.state c.args.own.now)) (own_of c.take_one.new.self (g.C.CrqEnd.state c.take_one.new.crq.end) (g.O.WindowPort.state c.take_one.new.own)) c.from_residual.result c.in_err-take_one.field-0.0 same
+
+pub returns-then-taken-count-clause-acts : goal.returns-then-taken-count-clause-acts
+returns-then-taken-count-clause-acts g c =
+    line_full c.args.count c.args.taken.now (acting c.args.self.now g.C.CrqEnd.is_shared (g.C.CrqEnd.state c.args.crq.now.end) g.O.WindowPort.is_shared (g.O.WindowPort.state c.args.own.now)) (omega (arith, c.if-taken-count.true))
+
+pub returns-then-taken-count-2-clause-acts : goal.returns-then-taken-count-2-clause-acts
+returns-then-taken-count-2-clause-acts g c =
+    let more : c.saturating_add.result ≡ c.loop-entry.taken + 1 = omega (arith, c.saturating_add.ensures, c.loop-entry.invariant.less, c.ranges.count.fits) in
+    line_wanted c.args.count c.args.taken.now c.loop-entry.taken c.saturating_add.result c.loop-entry._entry (acting c.args.self.now g.C.CrqEnd.is_shared (g.C.CrqEnd.state c.args.crq.now.end) g.O.WindowPort.is_shared (g.O.WindowPort.state c.args.own.now))
+    (acting c.loop-entry.self g.C.CrqEnd.is_shared (g.C.CrqEnd.state c.loop-entry.crq.end) g.O.WindowPort.is_shared (g.O.WindowPort.state c.loop-entry.own))
+    (acting c.take_one.new.self g.C.CrqEnd.is_shared (g.C.CrqEnd.state c.take_one.new.crq.end) g.O.WindowPort.is_shared (g.O.WindowPort.state c.take_one.new.own)) more c.loop-entry.invariant.less (omega (arith, c.if-taken-count-2.true)) c.loop-entry.invariant.acts
+    (subst (λ (t : Took). TakesOnce t (acting c.loop-entry.self g.C.CrqEnd.is_shared (g.C.CrqEnd.state c.loop-entry.crq.end) g.O.WindowPort.is_shared (g.O.WindowPort.state c.loop-entry.own))
+    (acting c.take_one.new.self g.C.CrqEnd.is_shared (g.C.CrqEnd.state c.take_one.new.crq.end) g.O.WindowPort.is_shared (g.O.WindowPort.state c.take_one.new.own))) c.in-Answer.is c.in_ok-take_one.ensures.acts)
+
+pub returns-in-Lost-clause-acts : goal.returns-in-Lost-clause-acts
+returns-in-Lost-clause-acts g c =
+    line_lost c.args.count c.args.taken.now c.loop-entry.taken c.loop-entry._entry (acting c.args.self.now g.C.CrqEnd.is_shared (g.C.CrqEnd.state c.args.crq.now.end) g.O.WindowPort.is_shared (g.O.WindowPort.state c.args.own.now))
+    (acting c.loop-entry.self g.C.CrqEnd.is_shared (g.C.CrqEnd.state c.loop-entry.crq.end) g.O.WindowPort.is_shared (g.O.WindowPort.state c.loop-entry.own))
+    (acting c.take_one.new.self g.C.CrqEnd.is_shared (g.C.CrqEnd.state c.take_one.new.crq.end) g.O.WindowPort.is_shared (g.O.WindowPort.state c.take_one.new.own)) c.loop-entry.invariant.acts
+    (subst (λ (t : Took). TakesOnce t (acting c.loop-entry.self g.C.CrqEnd.is_shared (g.C.CrqEnd.state c.loop-entry.crq.end) g.O.WindowPort.is_shared (g.O.WindowPort.state c.loop-entry.own))
+    (acting c.take_one.new.self g.C.CrqEnd.is_shared (g.C.CrqEnd.state c.take_one.new.crq.end) g.O.WindowPort.is_shared (g.O.WindowPort.state c.take_one.new.own))) c.in-Lost.is c.in_ok-take_one.ensures.acts)
+
+pub returns-in-InUse-clause-acts : goal.returns-in-InUse-clause-acts
+returns-in-InUse-clause-acts g c =
+    line_used c.args.count c.args.taken.now c.loop-entry.taken c.loop-entry._entry c.moved.result (acting c.args.self.now g.C.CrqEnd.is_shared (g.C.CrqEnd.state c.args.crq.now.end) g.O.WindowPort.is_shared (g.O.WindowPort.state c.args.own.now))
+    (acting c.loop-entry.self g.C.CrqEnd.is_shared (g.C.CrqEnd.state c.loop-entry.crq.end) g.O.WindowPort.is_shared (g.O.WindowPort.state c.loop-entry.own))
+    (acting c.take_one.new.self g.C.CrqEnd.is_shared (g.C.CrqEnd.state c.take_one.new.crq.end) g.O.WindowPort.is_shared (g.O.WindowPort.state c.take_one.new.own)) c.loop-entry.invariant.acts
+    (subst (λ (t : Took). TakesOnce t (acting c.loop-entry.self g.C.CrqEnd.is_shared (g.C.CrqEnd.state c.loop-entry.crq.end) g.O.WindowPort.is_shared (g.O.WindowPort.state c.loop-entry.own))
+    (acting c.take_one.new.self g.C.CrqEnd.is_shared (g.C.CrqEnd.state c.take_one.new.crq.end) g.O.WindowPort.is_shared (g.O.WindowPort.state c.take_one.new.own))) c.in-InUse.is c.in_ok-take_one.ensures.acts)
+
+pub returns-then-is_empty-clause-acts : goal.returns-then-is_empty-clause-acts
+returns-then-is_empty-clause-acts g c =
+    line_ended c.args.count c.args.taken.now c.loop-entry.taken c.loop-entry._entry c.outstanding.result.now (acting c.args.self.now g.C.CrqEnd.is_shared (g.C.CrqEnd.state c.args.crq.now.end) g.O.WindowPort.is_shared (g.O.WindowPort.state c.args.own.now))
+    (acting c.loop-entry.self g.C.CrqEnd.is_shared (g.C.CrqEnd.state c.loop-entry.crq.end) g.O.WindowPort.is_shared (g.O.WindowPort.state c.loop-entry.own))
+    (acting c.take_one.new.self g.C.CrqEnd.is_shared (g.C.CrqEnd.state c.take_one.new.crq.end) g.O.WindowPort.is_shared (g.O.WindowPort.state c.take_one.new.own)) c.outstanding.ensures.tags (sym c.is_empty.ensures ∙ c.if-is_empty.true) c.loop-entry.invariant.acts
+    (subst (λ (t : Took). TakesOnce t (acting c.loop-entry.self g.C.CrqEnd.is_shared (g.C.CrqEnd.state c.loop-entry.crq.end) g.O.WindowPort.is_shared (g.O.WindowPort.state c.loop-entry.own))
+    (acting c.take_one.new.self g.C.CrqEnd.is_shared (g.C.CrqEnd.state c.take_one.new.crq.end) g.O.WindowPort.is_shared (g.O.WindowPort.state c.take_one.new.own))) c.in-Nothing.is c.in_ok-take_one.ensures.acts)
+
+pub returns-in-Nothing-clause-acts : goal.returns-in-Nothing-clause-acts
+returns-in-Nothing-clause-acts g c =
+    line_waits c.args.count c.args.taken.now c.loop-entry.taken c.loop-entry._entry c.outstanding.result.now c.moved-in-Nothing.result (acting c.args.self.now g.C.CrqEnd.is_shared (g.C.CrqEnd.state c.args.crq.now.end) g.O.WindowPort.is_shared (g.O.WindowPort.state c.args.own.now))
+    (acting c.loop-entry.self g.C.CrqEnd.is_shared (g.C.CrqEnd.state c.loop-entry.crq.end) g.O.WindowPort.is_shared (g.O.WindowPort.state c.loop-entry.own))
+    (acting c.take_one.new.self g.C.CrqEnd.is_shared (g.C.CrqEnd.state c.take_one.new.crq.end) g.O.WindowPort.is_shared (g.O.WindowPort.state c.take_one.new.own)) c.outstanding.ensures.tags (sym c.is_empty.ensures ∙ c.if-is_empty.false) c.loop-entry.invariant.acts
+    (subst (λ (t : Took). TakesOnce t (acting c.loop-entry.self g.C.CrqEnd.is_shared (g.C.CrqEnd.state c.loop-entry.crq.end) g.O.WindowPort.is_shared (g.O.WindowPort.state c.loop-entry.own))
+    (acting c.take_one.new.self g.C.CrqEnd.is_shared (g.C.CrqEnd.state c.take_one.new.crq.end) g.O.WindowPort.is_shared (g.O.WindowPort.state c.take_one.new.own))) c.in-Nothing.is c.in_ok-take_one.ensures.acts)
+
+pub returns-clause-acts : goal.returns-clause-acts
+returns-clause-acts g c =
+    line_slots c.args.count c.args.taken.now c.loop-entry.taken c.loop-entry._entry DidMove (acting c.args.self.now g.C.CrqEnd.is_shared (g.C.CrqEnd.state c.args.crq.now.end) g.O.WindowPort.is_shared (g.O.WindowPort.state c.args.own.now))
+    (acting c.loop-entry.self g.C.CrqEnd.is_shared (g.C.CrqEnd.state c.loop-entry.crq.end) g.O.WindowPort.is_shared (g.O.WindowPort.state c.loop-entry.own)) (omega (arith, c.slots-entry-end.ensures.slots, c.loop-entry-test.false)) c.loop-entry.invariant.acts

@@ -7,6 +7,8 @@ use Rattle.vcpu_run.proofs.TakesTold.{TakesSo}
 use Rattle.vcpu_run.proofs.TakingTurns.{TakesThem}
 use Rattle.vcpu_run.specs.PlainSteps.{own_of}
 use Rattle.vcpu_run.proofs.PlainCounting.{TakesSoFar}
+use Rattle.vcpu_run.specs.Acts.{acting}
+use Rattle.vcpu_run.proofs.ActsTaking.{TakingSo}
 use Rattle.vcpu_run.proofs.driver.Driver.take.Given as goal
 
 abbrev pub invariant-loop-entry : goal.invariant-loop-entry
@@ -23,4 +25,6 @@ invariant-loop-entry g l = record {
   plainly : g.C.CrqEnd.is_shared ≡ false → g.O.WindowPort.is_shared ≡ false → TakesSoFar l.count l.initial.taken l.taken l._entry
       (own_of l.initial.self (g.C.CrqEnd.state l.initial.crq.end) (g.O.WindowPort.state l.initial.own))
       (own_of l.self (g.C.CrqEnd.state l.crq.end) (g.O.WindowPort.state l.own));
+  acts : TakingSo l.initial.taken l.taken l._entry (acting l.initial.self g.C.CrqEnd.is_shared (g.C.CrqEnd.state l.initial.crq.end) g.O.WindowPort.is_shared (g.O.WindowPort.state l.initial.own))
+      (acting l.self g.C.CrqEnd.is_shared (g.C.CrqEnd.state l.crq.end) g.O.WindowPort.is_shared (g.O.WindowPort.state l.own));
 }

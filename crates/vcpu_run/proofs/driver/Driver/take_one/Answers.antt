@@ -1,4 +1,4 @@
-use Rattle.std.proofs.Common.{refl, sym, subst}
+use Rattle.std.proofs.Common.{ℕ, refl, sym, subst}
 use Rattle.vscsi_client.specs.declared.answers.Taken.TheVariants as takens
 use Rattle.vscsi_client.specs.Ports.{ports}
 use Rattle.vscsi_client.specs.State.{ClientState}
@@ -18,6 +18,9 @@ use Rattle.vcpu_run.proofs.EventsHeard.{takes_hear}
 use Rattle.vcpu_run.specs.PlainSteps.{TakesPlainly, own_by, own_of}
 use Rattle.vcpu_run.proofs.PlainEntries.{take_plainly}
 use Rattle.vcpu_run.specs.declared.taking.Took.TheVariants as tooks
+use Rattle.vcpu_run.specs.Acts.{TakesOnce, acting}
+use Rattle.vcpu_run.specs.Takings.{NotesIn}
+use Rattle.vcpu_run.proofs.ActsTaking.{takes_once}
 use Rattle.vcpu_run.proofs.driver.Driver.take_one.Goals as goal
 
 pub returns-in_err-note-in-Answer-clause-works : goal.returns-in_err-note-in-Answer-clause-works
@@ -34,7 +37,7 @@ returns-in_ok-note-in-Answer-clause-works g c =
     (ports g.C.CrqEnd.is_shared (g.C.CrqEnd.state c.args.crq.now.end) g.O.WindowPort.is_shared (g.O.WindowPort.state c.args.own.now))
     (ports g.C.CrqEnd.is_shared (g.C.CrqEnd.state c.take_answer.new.crq.end) g.O.WindowPort.is_shared (g.O.WindowPort.state c.take_answer.new.own))
     c.in-Answer.tag c.in-Answer.rsp c.args.self.now.answers.items c.note.new.self.answers.items
-    (subst (TakesEntry c.args.self.now.client c.take_answer.new.self (ports g.C.CrqEnd.is_shared (g.C.CrqEnd.state c.args.crq.now.end) g.O.WindowPort.is_shared (g.O.WindowPort.state c.args.own.now)) (ports g.C.CrqEnd.is_shared (g.C.CrqEnd.state c.take_answer.new.crq.end) g.O.WindowPort.is_shared (g.O.WindowPort.state c.take_answer.new.own))) c.in-Answer.is c.in_ok-tag.ensures.taken) c.in_ok-note-in-Answer.ensures.notes)
+    (subst (TakesEntry c.args.self.now.client c.take_answer.new.self (ports g.C.CrqEnd.is_shared (g.C.CrqEnd.state c.args.crq.now.end) g.O.WindowPort.is_shared (g.O.WindowPort.state c.args.own.now)) (ports g.C.CrqEnd.is_shared (g.C.CrqEnd.state c.take_answer.new.crq.end) g.O.WindowPort.is_shared (g.O.WindowPort.state c.take_answer.new.own))) c.in-Answer.is c.in_ok-tag.ensures.taken) c.in_ok-note-in-Answer.ensures.notes.noted)
 
 pub returns-in_ok-note-in-Answer-clause-took : goal.returns-in_ok-note-in-Answer-clause-took
 returns-in_ok-note-in-Answer-clause-took g c =
@@ -118,12 +121,12 @@ returns-in_ok-note-in-Answer-clause-takes g c = λ taken now.
     answer_taken c.in-Answer.tag c.in-Answer.rsp c.args.self.now c.note.new.self c.take_answer.new.self
     (ports g.C.CrqEnd.is_shared (g.C.CrqEnd.state c.args.crq.now.end) g.O.WindowPort.is_shared (g.O.WindowPort.state c.args.own.now))
     (ports g.C.CrqEnd.is_shared (g.C.CrqEnd.state c.take_answer.new.crq.end) g.O.WindowPort.is_shared (g.O.WindowPort.state c.take_answer.new.own))
-    taken now (subst (TakesEntry c.args.self.now.client c.take_answer.new.self (ports g.C.CrqEnd.is_shared (g.C.CrqEnd.state c.args.crq.now.end) g.O.WindowPort.is_shared (g.O.WindowPort.state c.args.own.now)) (ports g.C.CrqEnd.is_shared (g.C.CrqEnd.state c.take_answer.new.crq.end) g.O.WindowPort.is_shared (g.O.WindowPort.state c.take_answer.new.own))) c.in-Answer.is c.in_ok-tag.ensures.taken) c.in_ok-note-in-Answer.ensures.notes c.note.ensures.client
+    taken now (subst (TakesEntry c.args.self.now.client c.take_answer.new.self (ports g.C.CrqEnd.is_shared (g.C.CrqEnd.state c.args.crq.now.end) g.O.WindowPort.is_shared (g.O.WindowPort.state c.args.own.now)) (ports g.C.CrqEnd.is_shared (g.C.CrqEnd.state c.take_answer.new.crq.end) g.O.WindowPort.is_shared (g.O.WindowPort.state c.take_answer.new.own))) c.in-Answer.is c.in_ok-tag.ensures.taken) c.in_ok-note-in-Answer.ensures.notes.noted c.note.ensures.client
 
 pub returns-in_ok-note-in-Answer-clause-gives : goal.returns-in_ok-note-in-Answer-clause-gives
 returns-in_ok-note-in-Answer-clause-gives g c =
     let entry = (subst (TakesEntry c.args.self.now.client c.take_answer.new.self (ports g.C.CrqEnd.is_shared (g.C.CrqEnd.state c.args.crq.now.end) g.O.WindowPort.is_shared (g.O.WindowPort.state c.args.own.now)) (ports g.C.CrqEnd.is_shared (g.C.CrqEnd.state c.take_answer.new.crq.end) g.O.WindowPort.is_shared (g.O.WindowPort.state c.take_answer.new.own))) c.in-Answer.is c.in_ok-tag.ensures.taken) in
-    answer_gives c.in-Answer.tag c.in-Answer.rsp c.args.self.now c.note.new.self c.take_answer.new.self (g.C.CrqEnd.state c.args.crq.now.end) (g.C.CrqEnd.state c.take_answer.new.crq.end) entry.judged.judged.1 c.in_ok-note-in-Answer.ensures.notes c.note.ensures.client
+    answer_gives c.in-Answer.tag c.in-Answer.rsp c.args.self.now c.note.new.self c.take_answer.new.self (g.C.CrqEnd.state c.args.crq.now.end) (g.C.CrqEnd.state c.take_answer.new.crq.end) entry.judged.judged.1 c.in_ok-note-in-Answer.ensures.notes.noted c.note.ensures.client
     (takes_in (takens.Answer c.in-Answer.tag c.in-Answer.rsp) c.args.self.now.client c.take_answer.new.self
     (ports g.C.CrqEnd.is_shared (g.C.CrqEnd.state c.args.crq.now.end) g.O.WindowPort.is_shared (g.O.WindowPort.state c.args.own.now))
     (ports g.C.CrqEnd.is_shared (g.C.CrqEnd.state c.take_answer.new.crq.end) g.O.WindowPort.is_shared (g.O.WindowPort.state c.take_answer.new.own))
@@ -264,7 +267,7 @@ returns-in_ok-note-in-Answer-clause-plainly g c = λ crq_alone own_alone.
     (take_plainly g.C.CrqEnd.is_shared g.O.WindowPort.is_shared (own_of c.args.self.now (g.C.CrqEnd.state c.args.crq.now.end) (g.O.WindowPort.state c.args.own.now))
     (own_by c.take_answer.new.self c.note.new.self.answers.items (g.C.CrqEnd.state c.take_answer.new.crq.end) (g.O.WindowPort.state c.take_answer.new.own))
     c.in_ok-tag.field-0 (takens.Answer c.in-Answer.tag c.in-Answer.rsp) tooks.Answer c.in-Answer.is refl c.in_ok-tag.ensures.taken c.take_answer.ensures.crq_rest c.take_answer.ensures.own_rest crq_alone own_alone
-    c.in_ok-note-in-Answer.ensures.notes)
+    c.in_ok-note-in-Answer.ensures.notes.noted)
 
 pub returns-in-Stray-clause-plainly : goal.returns-in-Stray-clause-plainly
 returns-in-Stray-clause-plainly g c = λ crq_alone own_alone.
@@ -295,3 +298,42 @@ returns-in-Empty-clause-plainly g c = λ crq_alone own_alone.
     take_plainly g.C.CrqEnd.is_shared g.O.WindowPort.is_shared (own_of c.args.self.now (g.C.CrqEnd.state c.args.crq.now.end) (g.O.WindowPort.state c.args.own.now))
     (own_by c.take_answer.new.self c.args.self.now.answers.items (g.C.CrqEnd.state c.take_answer.new.crq.end) (g.O.WindowPort.state c.take_answer.new.own))
     c.in_ok-tag.field-0 (takens.Empty c.in-Empty.number) tooks.Nothing c.in-Empty.is refl c.in_ok-tag.ensures.taken c.take_answer.ensures.crq_rest c.take_answer.ensures.own_rest crq_alone own_alone refl
+
+pub returns-in-Stray-clause-acts : goal.returns-in-Stray-clause-acts
+returns-in-Stray-clause-acts g c =
+    takes_once (acting c.args.self.now g.C.CrqEnd.is_shared (g.C.CrqEnd.state c.args.crq.now.end) g.O.WindowPort.is_shared (g.O.WindowPort.state c.args.own.now))
+    (acting (record c.args.self.now { client = c.take_answer.new.self }) g.C.CrqEnd.is_shared (g.C.CrqEnd.state c.take_answer.new.crq.end) g.O.WindowPort.is_shared (g.O.WindowPort.state c.take_answer.new.own))
+    c.in_ok-tag.field-0 (takens.Stray c.in-Stray.field-0) tooks.Other c.in-Stray.is refl c.in_ok-tag.ensures.taken refl
+
+pub returns-in-Other-clause-acts : goal.returns-in-Other-clause-acts
+returns-in-Other-clause-acts g c =
+    takes_once (acting c.args.self.now g.C.CrqEnd.is_shared (g.C.CrqEnd.state c.args.crq.now.end) g.O.WindowPort.is_shared (g.O.WindowPort.state c.args.own.now))
+    (acting (record c.args.self.now { client = c.take_answer.new.self }) g.C.CrqEnd.is_shared (g.C.CrqEnd.state c.take_answer.new.crq.end) g.O.WindowPort.is_shared (g.O.WindowPort.state c.take_answer.new.own))
+    c.in_ok-tag.field-0 (takens.Other) tooks.Other c.in-Other.is refl c.in_ok-tag.ensures.taken refl
+
+pub returns-in-Lost-clause-acts : goal.returns-in-Lost-clause-acts
+returns-in-Lost-clause-acts g c =
+    takes_once (acting c.args.self.now g.C.CrqEnd.is_shared (g.C.CrqEnd.state c.args.crq.now.end) g.O.WindowPort.is_shared (g.O.WindowPort.state c.args.own.now))
+    (acting (record c.args.self.now { client = c.take_answer.new.self }) g.C.CrqEnd.is_shared (g.C.CrqEnd.state c.take_answer.new.crq.end) g.O.WindowPort.is_shared (g.O.WindowPort.state c.take_answer.new.own))
+    c.in_ok-tag.field-0 (takens.Lost) tooks.Lost c.in-Lost.is refl c.in_ok-tag.ensures.taken refl
+
+pub returns-in-Again-clause-acts : goal.returns-in-Again-clause-acts
+returns-in-Again-clause-acts g c =
+    takes_once (acting c.args.self.now g.C.CrqEnd.is_shared (g.C.CrqEnd.state c.args.crq.now.end) g.O.WindowPort.is_shared (g.O.WindowPort.state c.args.own.now))
+    (acting (record c.args.self.now { client = c.take_answer.new.self }) g.C.CrqEnd.is_shared (g.C.CrqEnd.state c.take_answer.new.crq.end) g.O.WindowPort.is_shared (g.O.WindowPort.state c.take_answer.new.own))
+    c.in_ok-tag.field-0 (takens.Again c.in-Again.page c.in-Again.word) tooks.InUse c.in-Again.is refl c.in_ok-tag.ensures.taken refl
+
+pub returns-in-Empty-clause-acts : goal.returns-in-Empty-clause-acts
+returns-in-Empty-clause-acts g c =
+    takes_once (acting c.args.self.now g.C.CrqEnd.is_shared (g.C.CrqEnd.state c.args.crq.now.end) g.O.WindowPort.is_shared (g.O.WindowPort.state c.args.own.now))
+    (acting (record c.args.self.now { client = c.take_answer.new.self }) g.C.CrqEnd.is_shared (g.C.CrqEnd.state c.take_answer.new.crq.end) g.O.WindowPort.is_shared (g.O.WindowPort.state c.take_answer.new.own))
+    c.in_ok-tag.field-0 (takens.Empty c.in-Empty.number) tooks.Nothing c.in-Empty.is refl c.in_ok-tag.ensures.taken refl
+
+pub returns-in_ok-note-in-Answer-clause-acts : goal.returns-in_ok-note-in-Answer-clause-acts
+returns-in_ok-note-in-Answer-clause-acts g c =
+    subst (λ (s : ClientState). TakesOnce tooks.Answer (acting c.args.self.now g.C.CrqEnd.is_shared (g.C.CrqEnd.state c.args.crq.now.end) g.O.WindowPort.is_shared (g.O.WindowPort.state c.args.own.now))
+    (acting (record c.note.new.self { client = s }) g.C.CrqEnd.is_shared (g.C.CrqEnd.state c.take_answer.new.crq.end) g.O.WindowPort.is_shared (g.O.WindowPort.state c.take_answer.new.own))) (sym c.note.ensures.client)
+    (takes_once (acting c.args.self.now g.C.CrqEnd.is_shared (g.C.CrqEnd.state c.args.crq.now.end) g.O.WindowPort.is_shared (g.O.WindowPort.state c.args.own.now))
+    (acting (record c.note.new.self { client = c.take_answer.new.self }) g.C.CrqEnd.is_shared (g.C.CrqEnd.state c.take_answer.new.crq.end) g.O.WindowPort.is_shared (g.O.WindowPort.state c.take_answer.new.own))
+    c.in_ok-tag.field-0 (takens.Answer c.in-Answer.tag c.in-Answer.rsp) tooks.Answer c.in-Answer.is refl c.in_ok-tag.ensures.taken (subst (λ (n : ℕ). NotesIn n c.in-Answer.tag c.in-Answer.rsp c.args.self.now.answers.items c.note.new.self.answers.items) c.session.ensures.session
+    c.in_ok-note-in-Answer.ensures.notes))

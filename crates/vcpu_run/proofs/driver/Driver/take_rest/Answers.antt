@@ -8,6 +8,8 @@ use Rattle.vcpu_run.proofs.Working.{works_on, works_same}
 use Rattle.vcpu_run.proofs.Giving.{gives_on, gives_same}
 use Rattle.vcpu_run.specs.PlainSteps.{own_of}
 use Rattle.vcpu_run.proofs.PlainRest.{rests_err, rests_more, rests_none}
+use Rattle.vcpu_run.specs.Acts.{acting}
+use Rattle.vcpu_run.proofs.ActsTaking.{rest_more, rest_none}
 use Rattle.vcpu_run.proofs.driver.Driver.take_rest.Goals as goal
 
 pub returns-in_err-take_one-clause-works : goal.returns-in_err-take_one-clause-works
@@ -28,6 +30,9 @@ loop-taken-preserved g c = record {
       (own_of c.loop-taken.self (g.C.CrqEnd.state c.loop-taken.crq.end) (g.O.WindowPort.state c.loop-taken.own))
       (own_of c.take_one.new.self (g.C.CrqEnd.state c.take_one.new.crq.end) (g.O.WindowPort.state c.take_one.new.own)) _ (c.loop-taken.invariant.plainly crq_alone own_alone) (c.in_ok-take_one.ensures.plainly crq_alone own_alone);
   fresh = λ is. absurd (not_quiet is);
+  acts = rest_more (acting c.args.self.now g.C.CrqEnd.is_shared (g.C.CrqEnd.state c.args.crq.now.end) g.O.WindowPort.is_shared (g.O.WindowPort.state c.args.own.now))
+      (acting c.loop-taken.self g.C.CrqEnd.is_shared (g.C.CrqEnd.state c.loop-taken.crq.end) g.O.WindowPort.is_shared (g.O.WindowPort.state c.loop-taken.own))
+      (acting c.take_one.new.self g.C.CrqEnd.is_shared (g.C.CrqEnd.state c.take_one.new.crq.end) g.O.WindowPort.is_shared (g.O.WindowPort.state c.take_one.new.own)) _ c.loop-taken.invariant.acts c.in_ok-take_one.ensures.acts;
 }
 
 pub returns-in-InUse-clause-works : goal.returns-in-InUse-clause-works
@@ -62,6 +67,7 @@ loop-taken-init g c = record {
   gives = gives_same c.args.self.now (g.C.CrqEnd.state c.args.crq.now.end);
   plainly = λ crq_alone own_alone. rests_none (own_of c.args.self.now (g.C.CrqEnd.state c.args.crq.now.end) (g.O.WindowPort.state c.args.own.now));
   fresh = λ is. refl;
+  acts = rest_none (acting c.args.self.now g.C.CrqEnd.is_shared (g.C.CrqEnd.state c.args.crq.now.end) g.O.WindowPort.is_shared (g.O.WindowPort.state c.args.own.now));
 }
 
 pub returns-in_err-take_one-clause-plainly : goal.returns-in_err-take_one-clause-plainly
@@ -85,3 +91,15 @@ returns-in-InUse-clause-plainly g c = λ crq_alone own_alone.
 
 pub returns-clause-plainly : goal.returns-clause-plainly
 returns-clause-plainly g c = λ crq_alone own_alone. (c.loop-taken.invariant.plainly crq_alone own_alone).leaves
+
+pub returns-in-Nothing-clause-acts : goal.returns-in-Nothing-clause-acts
+returns-in-Nothing-clause-acts g c =
+    rest_more (acting c.args.self.now g.C.CrqEnd.is_shared (g.C.CrqEnd.state c.args.crq.now.end) g.O.WindowPort.is_shared (g.O.WindowPort.state c.args.own.now))
+    (acting c.loop-taken.self g.C.CrqEnd.is_shared (g.C.CrqEnd.state c.loop-taken.crq.end) g.O.WindowPort.is_shared (g.O.WindowPort.state c.loop-taken.own))
+    (acting c.take_one.new.self g.C.CrqEnd.is_shared (g.C.CrqEnd.state c.take_one.new.crq.end) g.O.WindowPort.is_shared (g.O.WindowPort.state c.take_one.new.own)) _ c.loop-taken.invariant.acts c.in_ok-take_one.ensures.acts
+
+pub returns-in-InUse-clause-acts : goal.returns-in-InUse-clause-acts
+returns-in-InUse-clause-acts g c =
+    rest_more (acting c.args.self.now g.C.CrqEnd.is_shared (g.C.CrqEnd.state c.args.crq.now.end) g.O.WindowPort.is_shared (g.O.WindowPort.state c.args.own.now))
+    (acting c.loop-taken.self g.C.CrqEnd.is_shared (g.C.CrqEnd.state c.loop-taken.crq.end) g.O.WindowPort.is_shared (g.O.WindowPort.state c.loop-taken.own))
+    (acting c.take_one.new.self g.C.CrqEnd.is_shared (g.C.CrqEnd.state c.take_one.new.crq.end) g.O.WindowPort.is_shared (g.O.WindowPort.state c.take_one.new.own)) _ c.loop-taken.invariant.acts c.in_ok-take_one.ensures.acts

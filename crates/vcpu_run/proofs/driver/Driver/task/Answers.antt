@@ -13,6 +13,8 @@ use Rattle.vcpu_run.proofs.EventsHeard.{sent_none}
 use Rattle.vcpu_run.proofs.Giving.{asks_hear}
 use Rattle.vcpu_run.specs.PlainSteps.{own_by, own_of}
 use Rattle.vcpu_run.proofs.PlainRequests.{task_plainly}
+use Rattle.vcpu_run.specs.Acts.{acting}
+use Rattle.vcpu_run.proofs.ActsAsking.{task_acts}
 use Rattle.vcpu_run.proofs.driver.Driver.task.Goals as goal
 
 pub returns-clause-works : goal.returns-clause-works
@@ -91,3 +93,9 @@ returns-clause-plainly g c =
     (own_by c.task.new.self c.args.self.now.answers.items (g.C.CrqEnd.state c.task.new.crq.end) (g.O.WindowPort.state c.task.new.own))
     c.task.result c.sent.result refl c.sent.ensures.sent c.sent.ensures.why c.sent.ensures.memory c.task.ensures.refused c.task.ensures.same c.task.ensures.sent c.task.ensures.why
     c.task.ensures.crq_rest c.task.ensures.own_rest
+
+pub returns-clause-acts : goal.returns-clause-acts
+returns-clause-acts g c =
+    task_acts c.args.line c.args.function c.args.tag (acting c.args.self.now g.C.CrqEnd.is_shared (g.C.CrqEnd.state c.args.crq.now.end) g.O.WindowPort.is_shared (g.O.WindowPort.state c.args.own.now))
+    (acting (record c.args.self.now { client = c.task.new.self }) g.C.CrqEnd.is_shared (g.C.CrqEnd.state c.task.new.crq.end) g.O.WindowPort.is_shared (g.O.WindowPort.state c.task.new.own))
+    c.task.result c.sent.result refl c.sent.ensures.sent c.sent.ensures.why c.task.ensures.refused c.task.ensures.sent c.task.ensures.why c.task.ensures.same

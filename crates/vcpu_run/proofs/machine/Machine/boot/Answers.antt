@@ -5,6 +5,7 @@ use Rattle.rdma_copy.specs.declared.copy.CopyRecord.{CopyRecord}
 use Rattle.boot_text.specs.declared.plan.TheConstants.{MOST_PARTITIONS}
 use Rattle.lan_script.specs.declared.seat.PortSeat.{PortSeat}
 use Rattle.vcpu_run.specs.Machines.{ArePlanned, AreScripts, IsOfPlan, home_of}
+use Rattle.vcpu_run.specs.Answered.{AreAnswered}
 use Rattle.vcpu_run.specs.Making.{AreMade}
 use Rattle.vcpu_run.specs.Pairs.{ArePairs}
 use Rattle.vcpu_run.specs.Ports.{ports_of}
@@ -83,55 +84,38 @@ returns-clause-of_plan g c =
       sound = c.requires.sound.partitions;
     }
 
-pub returns-clause-credited : goal.returns-clause-credited
-returns-clause-credited g c =
-    let pairs = c.in-Ok.pairs in
-    let scripts = c.in-Ok-make_scripts.scripts in
+pub returns-clause-ready : goal.returns-clause-ready
+returns-clause-ready g c =
+    let pairs = c.in-Ok.pairs.items in
+    let scripts = c.in-Ok-make_scripts.scripts.items in
+    let server = c.in_ok-server in
+    let units = server.server.units.items in
     let partitions = c.args.plan.now.partitions in
-    let made : AreMade partitions scripts.items = rw (← c.as_slice-partitions.ensures) c.in-Ok-make_scripts.ensures in
-    credits_made _ partitions pairs.items scripts.items made c.in-Ok.ensures.out (λ k pair found. (c.in-Ok.ensures.fresh k pair found).bare)
-    (λ k pair found. none_noted pair (c.in-Ok.ensures.fresh k pair found).untaken)
+    let fresh = c.in-Ok.ensures.fresh in
+    let made : AreMade partitions scripts = rw (← c.as_slice-partitions.ensures) c.in-Ok-make_scripts.ensures in
+    record {
+      served = record {
+        answered = subst (λ (rows : List Served). AreAnswered rows pairs) (sym server.ensures.history) c.in-Ok.ensures.answered;
+        received = received_fresh units server.server.copies.items server.server.records.grants.items server.server.records.history.items pairs
+            server.ensures.copies server.ensures.lines server.ensures.history server.ensures.none server.ensures.unused server.ensures.unanswered server.ensures.down c.in-Ok.ensures.closed fresh;
+        heard = heard_fresh server.server.disk.count server.server.partition units server.server.records server.server.copies.items pairs
+            server.ensures.history server.ensures.lines server.ensures.order server.ensures.idle server.ensures.unrefused server.ensures.unused fresh;
+      };
+      credited = credits_made _ partitions pairs scripts made c.in-Ok.ensures.out (λ k pair found. (fresh k pair found).bare)
+          (λ k pair found. none_noted pair (fresh k pair found).untaken);
+      said = told_made partitions pairs scripts made c.in-Ok.ensures.out (λ k pair found. (
+        (fresh k pair found).untaken,
+        (fresh k pair found).rows,
+        (fresh k pair found).events,
+        record { sent = λ zero. (fresh k pair found).sent; kept = λ zero. (fresh k pair found).event },
+      ));
+      told = ports_made c.in-Ok-open_lan.lan partitions scripts c.in-Ok-open_lan.ensures.fresh made;
+      linked = linked_closed units pairs server.ensures.down c.in-Ok.ensures.closed;
+      unfreed = queues_fresh pairs scripts c.in-Ok.ensures.closed;
+    }
 
 pub returns-clause-none : goal.returns-clause-none
 returns-clause-none g c = c.in_ok-server.ensures.history
-
-pub returns-clause-linked : goal.returns-clause-linked
-returns-clause-linked g c = linked_closed c.in_ok-server.server.units.items c.in-Ok.pairs.items c.in_ok-server.ensures.down c.in-Ok.ensures.closed
-
-pub returns-clause-received : goal.returns-clause-received
-returns-clause-received g c =
-    let server = c.in_ok-server in
-    received_fresh server.server.units.items server.server.copies.items server.server.records.grants.items server.server.records.history.items c.in-Ok.pairs.items
-    server.ensures.copies server.ensures.lines server.ensures.history server.ensures.none server.ensures.unused server.ensures.unanswered server.ensures.down c.in-Ok.ensures.closed c.in-Ok.ensures.fresh
-
-pub returns-clause-unfreed : goal.returns-clause-unfreed
-returns-clause-unfreed g c = queues_fresh c.in-Ok.pairs.items c.in-Ok-make_scripts.scripts.items c.in-Ok.ensures.closed
-
-pub returns-clause-told : goal.returns-clause-told
-returns-clause-told g c =
-    let scripts = c.in-Ok-make_scripts.scripts in
-    let partitions = c.args.plan.now.partitions in
-    let made : AreMade partitions scripts.items = rw (← c.as_slice-partitions.ensures) c.in-Ok-make_scripts.ensures in
-    ports_made c.in-Ok-open_lan.lan partitions scripts.items c.in-Ok-open_lan.ensures.fresh made
-
-pub returns-clause-said : goal.returns-clause-said
-returns-clause-said g c =
-    let pairs = c.in-Ok.pairs in
-    let scripts = c.in-Ok-make_scripts.scripts in
-    let partitions = c.args.plan.now.partitions in
-    let made : AreMade partitions scripts.items = rw (← c.as_slice-partitions.ensures) c.in-Ok-make_scripts.ensures in
-    told_made partitions pairs.items scripts.items made c.in-Ok.ensures.out (λ k pair found. (
-      (c.in-Ok.ensures.fresh k pair found).untaken,
-      (c.in-Ok.ensures.fresh k pair found).rows,
-      (c.in-Ok.ensures.fresh k pair found).events,
-      record { sent = λ zero. (c.in-Ok.ensures.fresh k pair found).sent; kept = λ zero. (c.in-Ok.ensures.fresh k pair found).event },
-    ))
-
-pub returns-clause-heard : goal.returns-clause-heard
-returns-clause-heard g c =
-    let server = c.in_ok-server in
-    heard_fresh server.server.disk.count server.server.partition server.server.units.items server.server.records server.server.copies.items c.in-Ok.pairs.items
-    server.ensures.history server.ensures.lines server.ensures.order server.ensures.idle server.ensures.unrefused server.ensures.unused c.in-Ok.ensures.fresh
 
 pub returns-clause-plainly : goal.returns-clause-plainly
 returns-clause-plainly g c =

@@ -22,7 +22,8 @@ use Rattle.vcpu_run.specs.PortWords.{PortsTell}
 use Rattle.vcpu_run.specs.PortsRest.{AreTakenTo, PortsEnd}
 use Rattle.vcpu_run.specs.Heard.{AreHeard}
 use Rattle.vcpu_run.proofs.Causings.{caused_told, form_told}
-use Rattle.vcpu_run.specs.PlainPairs.{books_of}
+use Rattle.block_server.specs.TurnStock.{stock_of}
+use Rattle.vcpu_run.specs.Served.{AllServed, books_in}
 use Rattle.vcpu_run.specs.PlainRuns.{ArePlain}
 use Rattle.vcpu_run.proofs.PlainTold.{plain_same}
 use Rattle.vcpu_run.proofs.machine.Machine.settle.Goals as goal
@@ -33,7 +34,7 @@ trace_of-trace-requires-clause-pairs g c =
     let new = c.run-run.new.pairs in
     let size : old.len ≡ length old.items = search rules in
     let pairs : take old.len (new ++ drop (length new) old.items) ≡ new =
-    lent old.len old.items new size (c.run-run.ensures.stay.count ∙ ap length c.deref_mut.ensures.value) in
+    lent old.len old.items new size (c.run-run.ensures.stays.stay.count ∙ ap length c.deref_mut.ensures.value) in
     let here : AreOfOneHome c.finish-image.result.copies.items new =
     record { home = c.run-run.new.server.partition; pairs_are = rw c.finish-image.ensures.copies c.run-run.ensures.machine.serving.pairs_are; apart = c.run-run.ensures.machine.serving.apart } in
     subst (λ (list : List Pair). AreOfOneHome c.finish-image.result.copies.items list) (sym pairs) here
@@ -47,9 +48,9 @@ trace_of-trace-requires-clause-scripts g c =
     let size : old.len ≡ length old.items = search rules in
     let size_scripts : old_scripts.len ≡ length old_scripts.items = search rules in
     let pairs : take old.len (new ++ drop (length new) old.items) ≡ new =
-    lent old.len old.items new size (c.run-run.ensures.stay.count ∙ ap length c.deref_mut.ensures.value) in
+    lent old.len old.items new size (c.run-run.ensures.stays.stay.count ∙ ap length c.deref_mut.ensures.value) in
     let scripts : take old_scripts.len (new_scripts ++ drop (length new_scripts) old_scripts.items) ≡ new_scripts =
-    lent old_scripts.len old_scripts.items new_scripts size_scripts (c.run-run.ensures.run.count ∙ ap length c.deref_mut-2.ensures.value) in
+    lent old_scripts.len old_scripts.items new_scripts size_scripts (c.run-run.ensures.stays.run.count ∙ ap length c.deref_mut-2.ensures.value) in
     subst (λ (list : List Pair). AreScripts list c.run-run.new.lan.seats (take old_scripts.len (new_scripts ++ drop (length new_scripts) old_scripts.items))) (sym pairs)
     (subst (λ (list : List Script). AreScripts new c.run-run.new.lan.seats list) (sym scripts) c.run-run.ensures.machine.scripts_are)
 
@@ -62,21 +63,21 @@ trace_of-trace-requires-clause-credited g c =
     let size : old.len ≡ length old.items = search rules in
     let size_scripts : old_scripts.len ≡ length old_scripts.items = search rules in
     let pairs : take old.len (new ++ drop (length new) old.items) ≡ new =
-    lent old.len old.items new size (c.run-run.ensures.stay.count ∙ ap length c.deref_mut.ensures.value) in
+    lent old.len old.items new size (c.run-run.ensures.stays.stay.count ∙ ap length c.deref_mut.ensures.value) in
     let scripts : take old_scripts.len (new_scripts ++ drop (length new_scripts) old_scripts.items) ≡ new_scripts =
-    lent old_scripts.len old_scripts.items new_scripts size_scripts (c.run-run.ensures.run.count ∙ ap length c.deref_mut-2.ensures.value) in
+    lent old_scripts.len old_scripts.items new_scripts size_scripts (c.run-run.ensures.stays.run.count ∙ ap length c.deref_mut-2.ensures.value) in
     let of : List CopyRecord → List Pair → List Script → Type 0 = λ copies list scripts. AreCredited (copies_at copies list) list scripts in
     let was = c.args.self.server.copies.items in
     let now = c.run-run.new.server.copies.items in
     let before : of was c.deref_mut.result.now c.deref_mut-2.result.now =
     subst (λ (list : List Pair). of was list c.deref_mut-2.result.now) (sym c.deref_mut.ensures.value)
-    (subst (λ (list : List Script). of was old.items list) (sym c.deref_mut-2.ensures.value) c.requires.credited) in
-    ok_then c.run-run.result (of was c.deref_mut.result.now c.deref_mut-2.result.now → of now new new_scripts) _
-    (λ kept.
+    (subst (λ (list : List Script). of was old.items list) (sym c.deref_mut-2.ensures.value) c.requires.ready.credited) in
+    ok_then c.run-run.result _ _
+    (λ keeps.
     rw c.finish-image.ensures.copies
     (subst (λ (list : List Pair). of now list (take old_scripts.len (new_scripts ++ drop (length new_scripts) old_scripts.items))) (sym pairs)
-    (subst (λ (list : List Script). of now new list) (sym scripts) (kept before))))
-    c.run-run.ensures.credited
+    (subst (λ (list : List Script). of now new list) (sym scripts) (keeps.credited before))))
+    c.run-run.ensures.keeps
 
 pub trace_of-trace-requires-clause-over : goal.trace_of-trace-requires-clause-over
 trace_of-trace-requires-clause-over g c =
@@ -84,7 +85,7 @@ trace_of-trace-requires-clause-over g c =
     let new_scripts = c.run-run.new.scripts in
     let size_scripts : old_scripts.len ≡ length old_scripts.items = search rules in
     let scripts : take old_scripts.len (new_scripts ++ drop (length new_scripts) old_scripts.items) ≡ new_scripts =
-    lent old_scripts.len old_scripts.items new_scripts size_scripts (c.run-run.ensures.run.count ∙ ap length c.deref_mut-2.ensures.value) in
+    lent old_scripts.len old_scripts.items new_scripts size_scripts (c.run-run.ensures.stays.run.count ∙ ap length c.deref_mut-2.ensures.value) in
     ok_then c.run-run.result (All IsOver new_scripts) _ (λ over. subst (λ (list : List Script). All IsOver list) (sym scripts) over) c.run-run.ensures.over
 
 pub trace_of-trace-requires-clause-answered : goal.trace_of-trace-requires-clause-answered
@@ -93,12 +94,13 @@ trace_of-trace-requires-clause-answered g c =
     let new = c.run-run.new.pairs in
     let size : old.len ≡ length old.items = search rules in
     let pairs : take old.len (new ++ drop (length new) old.items) ≡ new =
-    lent old.len old.items new size (c.run-run.ensures.stay.count ∙ ap length c.deref_mut.ensures.value) in
-    let here : AreAnswered c.finish-image.result.history.items new = rw c.finish-image.ensures.history c.run-run.ensures.answered in
+    lent old.len old.items new size (c.run-run.ensures.stays.stay.count ∙ ap length c.deref_mut.ensures.value) in
+    let here : AreAnswered c.finish-image.result.history.items new = rw c.finish-image.ensures.history c.run-run.ensures.served.answered in
     subst (λ (list : List Pair). AreAnswered c.finish-image.result.history.items list) (sym pairs) here
 
-pub run-run-requires-clause-answered : goal.run-run-requires-clause-answered
-run-run-requires-clause-answered g c = rw c.deref_mut.ensures.value c.requires.answered
+pub run-run-requires-clause-served : goal.run-run-requires-clause-served
+run-run-requires-clause-served g c =
+    subst (λ (list : List Pair). AllServed (stock_of c.args.self.server) list) (sym c.deref_mut.ensures.value) c.requires.ready.served
 
 pub returns-clause-disk : goal.returns-clause-disk
 returns-clause-disk g c =
@@ -106,18 +108,18 @@ returns-clause-disk g c =
     disk_told c.trace_of-trace.result c.args.self.server.records.history.items c.run-run.new.server.records.history.items c.finish-image.result.history.items
     (g.Di.Blocks.state c.args.self.server.disk.image).blocks (g.Di.Blocks.state c.run-run.new.server.disk.image).blocks (g.Di.Blocks.state c.finish-image.result.image).blocks
     history (ap (λ image. (g.Di.Blocks.state image).blocks) c.finish-image.ensures.image)
-    c.run-run.ensures.disk c.trace_of-trace.ensures.serves
+    c.run-run.ensures.goes.lasts.disk c.trace_of-trace.ensures.serves
 
 pub returns-clause-tells : goal.returns-clause-tells
 returns-clause-tells g c =
     tells_told (g.Di.Blocks.state c.args.self.server.disk.image).blocks (g.Di.Blocks.state c.run-run.new.server.disk.image).blocks (g.Di.Blocks.state c.finish-image.result.image).blocks
-    (ap (λ image. (g.Di.Blocks.state image).blocks) c.finish-image.ensures.image) c.run-run.ensures.disk.tells
+    (ap (λ image. (g.Di.Blocks.state image).blocks) c.finish-image.ensures.image) c.run-run.ensures.goes.lasts.disk.tells
 
 pub returns-clause-lasts : goal.returns-clause-lasts
 returns-clause-lasts g c =
     lasts_somehow c.args.self.server.records.history.items c.run-run.new.server.records.history.items
     (g.Di.Blocks.state c.args.self.server.disk.image).blocks (g.Di.Blocks.state c.run-run.new.server.disk.image).blocks (g.Di.Blocks.state c.finish-image.result.image).blocks
-    (ap (λ image. (g.Di.Blocks.state image).blocks) c.finish-image.ensures.image) c.run-run.ensures.disk
+    (ap (λ image. (g.Di.Blocks.state image).blocks) c.finish-image.ensures.image) c.run-run.ensures.goes.lasts.disk
 
 pub returns-clause-law : goal.returns-clause-law
 returns-clause-law g c =
@@ -127,14 +129,14 @@ returns-clause-law g c =
     let new_scripts = c.run-run.new.scripts in
     let size : old.len ≡ length old.items = search rules in
     let size_scripts : old_scripts.len ≡ length old_scripts.items = search rules in
-    let stay : AllStay old.items new = rw (← c.deref_mut.ensures.value) c.run-run.ensures.stay in
-    let run : AllRun old_scripts.items new_scripts = rw (← c.deref_mut-2.ensures.value) c.run-run.ensures.run in
+    let stay : AllStay old.items new = rw (← c.deref_mut.ensures.value) c.run-run.ensures.stays.stay in
+    let run : AllRun old_scripts.items new_scripts = rw (← c.deref_mut-2.ensures.value) c.run-run.ensures.stays.run in
     let pairs : take old.len (new ++ drop (length new) old.items) ≡ new = lent old.len old.items new size stay.count in
     let scripts : take old_scripts.len (new_scripts ++ drop (length new_scripts) old_scripts.items) ≡ new_scripts =
     lent old_scripts.len old_scripts.items new_scripts size_scripts run.count in
     IfSome_then c.trace_of-trace.result c.trace_of-trace.ensures.law
     (λ trace keeps partitions of_plan.
-    keeps partitions (rw (pairs, scripts) (plan_lasts partitions old.items new old_scripts.items new_scripts c.args.self.lan.seats c.run-run.new.lan.seats stay run c.run-run.ensures.lan of_plan)))
+    keeps partitions (rw (pairs, scripts) (plan_lasts partitions old.items new old_scripts.items new_scripts c.args.self.lan.seats c.run-run.new.lan.seats stay run c.run-run.ensures.stays.seats of_plan)))
 
 pub trace_of-trace-requires-clause-rests : goal.trace_of-trace-requires-clause-rests
 trace_of-trace-requires-clause-rests g c =
@@ -145,21 +147,21 @@ trace_of-trace-requires-clause-rests g c =
     let size : old.len ≡ length old.items = search rules in
     let size_scripts : old_scripts.len ≡ length old_scripts.items = search rules in
     let pairs : take old.len (new ++ drop (length new) old.items) ≡ new =
-    lent old.len old.items new size (c.run-run.ensures.stay.count ∙ ap length c.deref_mut.ensures.value) in
+    lent old.len old.items new size (c.run-run.ensures.stays.stay.count ∙ ap length c.deref_mut.ensures.value) in
     let scripts : take old_scripts.len (new_scripts ++ drop (length new_scripts) old_scripts.items) ≡ new_scripts =
-    lent old_scripts.len old_scripts.items new_scripts size_scripts (c.run-run.ensures.run.count ∙ ap length c.deref_mut-2.ensures.value) in
+    lent old_scripts.len old_scripts.items new_scripts size_scripts (c.run-run.ensures.stays.run.count ∙ ap length c.deref_mut-2.ensures.value) in
     let units = c.args.self.server.units.items in
     let units' = c.run-run.new.server.units.items in
-    let before : AreLinked units c.deref_mut.result.now = subst (AreLinked units) (sym c.deref_mut.ensures.value) c.requires.linked in
+    let before : AreLinked units c.deref_mut.result.now = subst (AreLinked units) (sym c.deref_mut.ensures.value) c.requires.ready.linked in
     let whole : KeepQueues c.deref_mut.result.now c.deref_mut-2.result.now =
     subst (λ (list : List Pair). KeepQueues list c.deref_mut-2.result.now) (sym c.deref_mut.ensures.value)
-    (subst (λ (list : List Script). KeepQueues old.items list) (sym c.deref_mut-2.ensures.value) c.requires.unfreed) in
+    (subst (λ (list : List Script). KeepQueues old.items list) (sym c.deref_mut-2.ensures.value) c.requires.ready.unfreed) in
     let received : AreReceived units' c.finish-image.result.copies.items c.finish-image.result.grants.items c.finish-image.result.history.items new =
-    rw (c.finish-image.ensures.copies, c.finish-image.ensures.grants, c.finish-image.ensures.history) c.run-run.ensures.received in
+    rw (c.finish-image.ensures.copies, c.finish-image.ensures.grants, c.finish-image.ensures.history) c.run-run.ensures.served.received in
     let rows : c.finish-image.result.history.items ≡ c.run-run.new.server.records.history.items = rw c.finish-image.ensures.history refl in
     let lines : c.finish-image.result.grants.items ≡ c.run-run.new.server.records.grants.items = rw c.finish-image.ensures.grants refl in
     let heard : AreHeard c.run-run.new.server.disk.count c.run-run.new.server.partition units' c.run-run.new.server.records c.finish-image.result.copies.items new =
-    rw c.finish-image.ensures.copies c.run-run.ensures.heard in
+    rw c.finish-image.ensures.copies c.run-run.ensures.served.heard in
     ok_then c.run-run.result
     ((AreLinked units c.deref_mut.result.now → AreIdle units' new new_scripts) × (AreLinked units c.deref_mut.result.now → KeepQueues c.deref_mut.result.now c.deref_mut-2.result.now → KeepQueues new new_scripts) × All IsOver new_scripts) _
     (λ told.
@@ -185,22 +187,18 @@ trace_of-trace-requires-clause-rests g c =
     all_ok (Ok x) P Q R p q s = (p, q, s)
     all_ok (Err e) P Q R p q s = tt
 
-pub run-run-requires-clause-received : goal.run-run-requires-clause-received
-run-run-requires-clause-received g c = rw c.deref_mut.ensures.value c.requires.received
-
 pub trace_of-trace-requires-clause-told : goal.trace_of-trace-requires-clause-told
 trace_of-trace-requires-clause-told g c =
     let old_scripts = c.args.self.scripts in
     let new_scripts = c.run-run.new.scripts in
     let size_scripts : old_scripts.len ≡ length old_scripts.items = search rules in
     let scripts : take old_scripts.len (new_scripts ++ drop (length new_scripts) old_scripts.items) ≡ new_scripts =
-    lent old_scripts.len old_scripts.items new_scripts size_scripts (c.run-run.ensures.run.count ∙ ap length c.deref_mut-2.ensures.value) in
+    lent old_scripts.len old_scripts.items new_scripts size_scripts (c.run-run.ensures.stays.run.count ∙ ap length c.deref_mut-2.ensures.value) in
     let before : PortsTell c.args.self.lan c.deref_mut-2.result.now =
-    subst (λ (list : List Script). PortsTell c.args.self.lan list) (sym c.deref_mut-2.ensures.value) c.requires.told in
-    ends c.run-run.result (PortsTell c.args.self.lan c.deref_mut-2.result.now → PortsTell c.run-run.new.lan new_scripts)
-    (AreTakenTo (length new_scripts) c.run-run.new.lan new_scripts) _
-    (λ kept taken. subst (λ (list : List Script). PortsEnd c.run-run.new.lan list) (sym scripts) (record { told = kept before; taken = taken }))
-    c.run-run.ensures.told c.run-run.ensures.ports
+    subst (λ (list : List Script). PortsTell c.args.self.lan list) (sym c.deref_mut-2.ensures.value) c.requires.ready.told in
+    ends c.run-run.result _ (AreTakenTo (length new_scripts) c.run-run.new.lan new_scripts) _
+    (λ keeps taken. subst (λ (list : List Script). PortsEnd c.run-run.new.lan list) (sym scripts) (record { told = keeps.told before; taken = taken }))
+    c.run-run.ensures.keeps c.run-run.ensures.ports
   where
     ends : (r : Result Unit NoMemory) (P Q R : Type 0) → (P → Q → R) → OnOk r P → OnOk r Q → OnOk r R
     ends (Ok x) P Q R f p q = f p q
@@ -215,26 +213,23 @@ trace_of-trace-requires-clause-said g c =
     let size : old.len ≡ length old.items = search rules in
     let size_scripts : old_scripts.len ≡ length old_scripts.items = search rules in
     let pairs : take old.len (new ++ drop (length new) old.items) ≡ new =
-    lent old.len old.items new size (c.run-run.ensures.stay.count ∙ ap length c.deref_mut.ensures.value) in
+    lent old.len old.items new size (c.run-run.ensures.stays.stay.count ∙ ap length c.deref_mut.ensures.value) in
     let scripts : take old_scripts.len (new_scripts ++ drop (length new_scripts) old_scripts.items) ≡ new_scripts =
-    lent old_scripts.len old_scripts.items new_scripts size_scripts (c.run-run.ensures.run.count ∙ ap length c.deref_mut-2.ensures.value) in
+    lent old_scripts.len old_scripts.items new_scripts size_scripts (c.run-run.ensures.stays.run.count ∙ ap length c.deref_mut-2.ensures.value) in
     let before : AreTold c.deref_mut.result.now c.deref_mut-2.result.now =
     subst (λ (list : List Pair). AreTold list c.deref_mut-2.result.now) (sym c.deref_mut.ensures.value)
-    (subst (λ (list : List Script). AreTold old.items list) (sym c.deref_mut-2.ensures.value) c.requires.said) in
-    ok_then c.run-run.result (AreTold c.deref_mut.result.now c.deref_mut-2.result.now → AreTold new new_scripts) _
-    (λ kept.
+    (subst (λ (list : List Script). AreTold old.items list) (sym c.deref_mut-2.ensures.value) c.requires.ready.said) in
+    ok_then c.run-run.result _ _
+    (λ keeps.
     subst (λ (list : List Pair). AreTold list (take old_scripts.len (new_scripts ++ drop (length new_scripts) old_scripts.items))) (sym pairs)
-    (subst (λ (list : List Script). AreTold new list) (sym scripts) (kept before)))
-    c.run-run.ensures.said
-
-pub run-run-requires-clause-heard : goal.run-run-requires-clause-heard
-run-run-requires-clause-heard g c = rw c.deref_mut.ensures.value c.requires.heard
+    (subst (λ (list : List Script). AreTold new list) (sym scripts) (keeps.said before)))
+    c.run-run.ensures.keeps
 
 pub returns-clause-grants : goal.returns-clause-grants
 returns-clause-grants g c =
     let lines : c.finish-image.result.grants.items ≡ c.run-run.new.server.records.grants.items = rw c.finish-image.ensures.grants refl in
     IfSome_then c.trace_of-trace.result c.trace_of-trace.ensures.grants
-    (λ trace same granted is. subst (All (GrantsMany granted)) (sym (same ∙ lines)) (c.run-run.ensures.grants granted is).said)
+    (λ trace same granted is. subst (All (GrantsMany granted)) (sym (same ∙ lines)) (c.run-run.ensures.goes.lasts.grants granted is).said)
 
 pub returns-clause-caused : goal.returns-clause-caused
 returns-clause-caused g c =
@@ -246,8 +241,8 @@ returns-clause-caused g c =
     let server' = c.run-run.new.server in
     let size : old.len ≡ length old.items = search rules in
     let size_scripts : old_scripts.len ≡ length old_scripts.items = search rules in
-    let stay : AllStay old.items new = rw (← c.deref_mut.ensures.value) c.run-run.ensures.stay in
-    let run : AllRun old_scripts.items new_scripts = rw (← c.deref_mut-2.ensures.value) c.run-run.ensures.run in
+    let stay : AllStay old.items new = rw (← c.deref_mut.ensures.value) c.run-run.ensures.stays.stay in
+    let run : AllRun old_scripts.items new_scripts = rw (← c.deref_mut-2.ensures.value) c.run-run.ensures.stays.run in
     let pairs : take old.len (new ++ drop (length new) old.items) ≡ new = lent old.len old.items new size stay.count in
     let scripts : take old_scripts.len (new_scripts ++ drop (length new_scripts) old_scripts.items) ≡ new_scripts =
     lent old_scripts.len old_scripts.items new_scripts size_scripts run.count in
@@ -258,9 +253,9 @@ returns-clause-caused g c =
     (g.Di.Blocks.state server.disk.image).blocks (g.Di.Blocks.state server'.disk.image).blocks (g.Di.Blocks.state c.finish-image.result.image).blocks
     (λ partitions. IsOfPlan partitions old.items old_scripts.items c.args.self.lan.seats)
     (λ partitions. IsOfPlan partitions (take old.len (new ++ drop (length new) old.items)) (take old_scripts.len (new_scripts ++ drop (length new_scripts) old_scripts.items)) c.run-run.new.lan.seats)
-    (λ partitions of_plan. rw (pairs, scripts) (plan_lasts partitions old.items new old_scripts.items new_scripts c.args.self.lan.seats c.run-run.new.lan.seats stay run c.run-run.ensures.lan of_plan))
+    (λ partitions of_plan. rw (pairs, scripts) (plan_lasts partitions old.items new old_scripts.items new_scripts c.args.self.lan.seats c.run-run.new.lan.seats stay run c.run-run.ensures.stays.seats of_plan))
     history copies pairs (ap (λ image. (g.Di.Blocks.state image).blocks) c.finish-image.ensures.image)
-    c.run-run.ensures.causes c.trace_of-trace.ensures.serves c.trace_of-trace.ensures.shown
+    c.run-run.ensures.goes.causes c.trace_of-trace.ensures.serves c.trace_of-trace.ensures.shown
 
 pub returns-clause-plainly : goal.returns-clause-plainly
 returns-clause-plainly g c =
@@ -270,11 +265,11 @@ returns-clause-plainly g c =
     let new_scripts = c.run-run.new.scripts in
     let server = c.args.self.server in
     let server' = c.run-run.new.server in
-    let books = books_of server.units.items server.records.grants.items server.records.history.items in
+    let books = books_in server in
     let size : old.len ≡ length old.items = search rules in
     let size_scripts : old_scripts.len ≡ length old_scripts.items = search rules in
-    let stay : AllStay old.items new = rw (← c.deref_mut.ensures.value) c.run-run.ensures.stay in
-    let run : AllRun old_scripts.items new_scripts = rw (← c.deref_mut-2.ensures.value) c.run-run.ensures.run in
+    let stay : AllStay old.items new = rw (← c.deref_mut.ensures.value) c.run-run.ensures.stays.stay in
+    let run : AllRun old_scripts.items new_scripts = rw (← c.deref_mut-2.ensures.value) c.run-run.ensures.stays.run in
     let list = take old.len (new ++ drop (length new) old.items) in
     let list_scripts = take old_scripts.len (new_scripts ++ drop (length new_scripts) old_scripts.items) in
     let pairs : list ≡ new = lent old.len old.items new size stay.count in
@@ -286,11 +281,11 @@ returns-clause-plainly g c =
     let before : ArePlain granted server.partition books c.deref_mut.result.now c.deref_mut-2.result.now =
     subst (λ (l : List Pair). ArePlain granted server.partition books l c.deref_mut-2.result.now) (sym c.deref_mut.ensures.value)
     (subst (λ (l : List Script). ArePlain granted server.partition books old.items l) (sym c.deref_mut-2.ensures.value) plain) in
-    keeps partitions (rw (pairs, scripts) (plan_lasts partitions old.items new old_scripts.items new_scripts c.args.self.lan.seats c.run-run.new.lan.seats stay run c.run-run.ensures.lan of_plan))
+    keeps partitions (rw (pairs, scripts) (plan_lasts partitions old.items new old_scripts.items new_scripts c.args.self.lan.seats c.run-run.new.lan.seats stay run c.run-run.ensures.stays.seats of_plan))
     granted server'.partition server'.units.items
     (ok_then c.run-run.result
     ((granted : ℕ) → ArePlain granted server.partition books c.deref_mut.result.now c.deref_mut-2.result.now
-    → ArePlain granted server'.partition (books_of server'.units.items server'.records.grants.items server'.records.history.items) new new_scripts) _
+    → ArePlain granted server'.partition (books_in server') new new_scripts) _
     (λ kept. plain_same granted server'.partition server'.units.items server'.records.grants.items c.finish-image.result.grants.items
     server'.records.history.items c.finish-image.result.history.items new list new_scripts list_scripts lines rows pairs scripts (kept granted before))
     c.run-run.ensures.plainly))
@@ -304,8 +299,8 @@ returns-clause-formed g c =
     let server' = c.run-run.new.server in
     let size : old.len ≡ length old.items = search rules in
     let size_scripts : old_scripts.len ≡ length old_scripts.items = search rules in
-    let stay : AllStay old.items new = rw (← c.deref_mut.ensures.value) c.run-run.ensures.stay in
-    let run : AllRun old_scripts.items new_scripts = rw (← c.deref_mut-2.ensures.value) c.run-run.ensures.run in
+    let stay : AllStay old.items new = rw (← c.deref_mut.ensures.value) c.run-run.ensures.stays.stay in
+    let run : AllRun old_scripts.items new_scripts = rw (← c.deref_mut-2.ensures.value) c.run-run.ensures.stays.run in
     let pairs : take old.len (new ++ drop (length new) old.items) ≡ new = lent old.len old.items new size stay.count in
     let scripts : take old_scripts.len (new_scripts ++ drop (length new_scripts) old_scripts.items) ≡ new_scripts =
     lent old_scripts.len old_scripts.items new_scripts size_scripts run.count in
@@ -315,6 +310,6 @@ returns-clause-formed g c =
     server'.disk.count c.args.self.server.disk.count server'.partition server'.units.items server'.records
     (λ partitions. IsOfPlan partitions old.items old_scripts.items c.args.self.lan.seats)
     (λ partitions. IsOfPlan partitions (take old.len (new ++ drop (length new) old.items)) (take old_scripts.len (new_scripts ++ drop (length new_scripts) old_scripts.items)) c.run-run.new.lan.seats)
-    (λ partitions of_plan. rw (pairs, scripts) (plan_lasts partitions old.items new old_scripts.items new_scripts c.args.self.lan.seats c.run-run.new.lan.seats stay run c.run-run.ensures.lan of_plan))
-    history copies pairs c.run-run.ensures.count
-    c.run-run.ensures.heard c.trace_of-trace.ensures.serves c.trace_of-trace.ensures.shown
+    (λ partitions of_plan. rw (pairs, scripts) (plan_lasts partitions old.items new old_scripts.items new_scripts c.args.self.lan.seats c.run-run.new.lan.seats stay run c.run-run.ensures.stays.seats of_plan))
+    history copies pairs c.run-run.ensures.goes.lasts.count
+    c.run-run.ensures.served.heard c.trace_of-trace.ensures.serves c.trace_of-trace.ensures.shown

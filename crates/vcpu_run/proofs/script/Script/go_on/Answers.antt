@@ -2,15 +2,15 @@ use Rattle.vcpu_run.specs.Links.{SeatsRest}
 use Rattle.vcpu_run.specs.TakenScripts.{AllGive}
 use Rattle.vcpu_run.proofs.DataNoted.{keep_gives}
 use Rattle.vcpu_run.proofs.Resting.{ok_more}
-use Rattle.std.proofs.Common.{◌∙◌, ◌≤◌, List, ap, length, is_some, subst, sym}
+use Rattle.std.proofs.Common.{◌≡◌, ◌∙◌, ◌≤◌, List, Some, ap, length, is_some, refl, slice_get, subst, sym}
 use Rattle.vcpu_run.specs.declared.unit_seat.Seat.{Seat}
 use Rattle.vcpu_run.specs.Agreed.{SameElse}
 use Rattle.vcpu_run.proofs.CallRecords.{calls_still}
 use Rattle.vcpu_run.proofs.ClientRecords.{logs_still}
 use Rattle.vcpu_run.proofs.Keeping.{driven_stay}
-use Rattle.vcpu_run.proofs.Crediting.{credited_rest, on_ok, over_by}
+use Rattle.vcpu_run.proofs.Crediting.{credited_rest, less_by, on_ok, over_by}
 use Rattle.vcpu_run.proofs.Driving.{clients_of}
-use Rattle.std.proofs.lemmas.Option.{slice_get_past}
+use Rattle.std.proofs.lemmas.Option.{slice_get_past, slice_get_read}
 use Rattle.vcpu_run.proofs.ScriptsTold.{none_out, over_told}
 use Rattle.vcpu_run.proofs.Logging.{script_stays}
 use Rattle.vcpu_run.proofs.Held.{none_held, turned_held}
@@ -19,6 +19,7 @@ use Rattle.vcpu_run.proofs.Elsewhere.{ok_then}
 use Rattle.vcpu_run.proofs.Fetching.{ok_pair}
 use Rattle.vcpu_run.specs.PortsRest.{PortsRest}
 use Rattle.vcpu_run.proofs.PlainTurning.{rests_plainly, rests_quietly}
+use Rattle.vcpu_run.proofs.ActsScripts.{goes_none, goes_some}
 use Rattle.vcpu_run.proofs.script.Script.go_on.Goals as goal
 
 pub take_rest-requires-clause-few : goal.take_rest-requires-clause-few
@@ -112,3 +113,15 @@ returns-in-None-clause-quiets c =
     ok_more c.take_rest.result _ _
     (λ moved rests is. rests_quietly c.args.pairs.now c.take_rest.new.pairs c.args.self.now (slice_get_past c.args.self.now.lines.now c.args.self.now.at over))
     c.take_rest.ensures.quiet
+
+pub returns-in-None-clause-acts : goal.returns-in-None-clause-acts
+returns-in-None-clause-acts c =
+    let over : length c.args.self.now.lines.now ≤ c.args.self.now.at = over_by c.args.self.now.at (length c.args.self.now.lines.now) (sym c.get.ensures.lookup.0 ∙ ap is_some c.in-None.is) in
+    goes_none c.take_rest.result c.args.pairs.now c.take_rest.new.pairs c.args.self.now c.args.self.now (slice_get_past c.args.self.now.lines.now c.args.self.now.at over) c.take_rest.ensures.acts
+
+pub returns-in-Some-clause-acts : goal.returns-in-Some-clause-acts
+returns-in-Some-clause-acts c =
+    let found : slice_get c.args.self.now.lines.now c.args.self.now.at ≡ Some c.in-Some.line.now =
+    slice_get_read c.args.self.now.lines.now (length c.args.self.now.lines.now) c.args.self.now.at c.in-Some.line.now refl
+    (less_by c.args.self.now.at (length c.args.self.now.lines.now) (sym c.in-Some.ensures.lookup.0)) c.in-Some.ensures.lookup.1 in
+    goes_some c.step.result c.in-Some.line.now c.args.pairs.now c.step.new.pairs c.args.self.now c.step.new.self found c.step.ensures.acts

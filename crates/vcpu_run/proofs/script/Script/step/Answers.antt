@@ -36,6 +36,9 @@ use Rattle.vcpu_run.specs.PortWords.{done_in}
 use Rattle.vcpu_run.proofs.PortsTelling.{port_waits, step_tells}
 use Rattle.vcpu_run.specs.PlainScripts.{LinePlainly}
 use Rattle.vcpu_run.proofs.PlainScripted.{ends_plainly, waits_plainly, waits_quietly}
+use Rattle.vcpu_run.specs.ActsAt.{LineActs}
+use Rattle.vcpu_run.proofs.ActsScripts.{ends_go, fails_go, waits_go}
+use Rattle.vcpu_run.specs.Works.{fails}
 use Rattle.vcpu_run.proofs.script.Script.step.Goals as goal
 
 pub step_unit-requires : goal.step_unit-requires
@@ -73,6 +76,7 @@ returns-in_err-step c =
       quiet = search rules;
       plainly = search rules;
       quiets = search rules;
+      acts = search rules;
     }
 
 pub returns-in_err-end-in-Ends : goal.returns-in_err-end-in-Ends
@@ -96,6 +100,7 @@ returns-in_err-end-in-Ends c =
       quiet = search rules;
       plainly = search rules;
       quiets = search rules;
+      acts = search rules;
     }
 
 pub returns-in_ok-end-in-Ends : goal.returns-in_ok-end-in-Ends
@@ -197,6 +202,12 @@ returns-in_ok-end-in-Ends c =
           (rw (← c.deref.ensures.value) (c.in_ok-step.ensures.plainly (all_at (λ (l : Line). is_call l.verb ≡ false) c.args.self.now.lines.now c.args.self.now.at c.args.line.now c.requires.line no)))))
           c.end.ensures.rest.lines c.in_ok-end-in-Ends.ensures.ended.logs c.in_ok-end-in-Ends.ensures.fresh;
       quiets = λ is. absurd (not_quiet is);
+      acts =
+          ends_go c.args.line.now c.step_unit.new.progress c.in-Ends.outcome c.args.pairs.now c.step_unit.new.pairs c.args.self.now c.end.new.self (one_unit c.args.line.now.verb c.in_default.not-Fail)
+          (λ no.
+          (subst (λ (st : Step). LineActs c.args.self.now.seats.items c.args.line.now c.args.self.now.progress c.step_unit.new.progress c.args.pairs.now c.step_unit.new.pairs st) c.in-Ends.is
+          (rw (← c.deref.ensures.value) (c.in_ok-step.ensures.acts no))))
+          (record { logs = c.in_ok-end-in-Ends.ensures.ended.logs; none = c.in_ok-end-in-Ends.ensures.ended.none });
     }
 
 pub returns-in-Waits : goal.returns-in-Waits
@@ -287,7 +298,16 @@ returns-in-Waits c =
           (λ no.
           (subst (λ (st : Step). LinePlainly c.args.self.now.seats.items c.args.line.now c.args.self.now.progress c.step_unit.new.progress c.args.pairs.now c.step_unit.new.pairs (Ok st)) (c.in-Waits.is ∙ ap (λ m. steps.Waits m) is)
           (rw (← c.deref.ensures.value) (c.in_ok-step.ensures.plainly (all_at (λ (l : Line). is_call l.verb ≡ false) c.args.self.now.lines.now c.args.self.now.at c.args.line.now c.requires.line no)))));
+      acts =
+          waits_go c.args.line.now c.step_unit.new.progress c.in-Waits.moved c.args.pairs.now c.step_unit.new.pairs c.args.self.now (one_unit c.args.line.now.verb c.in_default.not-Fail)
+          (λ no.
+          (subst (λ (st : Step). LineActs c.args.self.now.seats.items c.args.line.now c.args.self.now.progress c.step_unit.new.progress c.args.pairs.now c.step_unit.new.pairs st) c.in-Waits.is
+          (rw (← c.deref.ensures.value) (c.in_ok-step.ensures.acts no))));
     }
 
 pub returns-in-Fail-clause-out : goal.returns-in-Fail-clause-out
 returns-in-Fail-clause-out c = ok_more c.step_fail.result _ _ (λ moved out is no told. out is) c.step_fail.ensures.out
+
+pub returns-in-Fail-clause-acts : goal.returns-in-Fail-clause-acts
+returns-in-Fail-clause-acts c =
+    fails_go c.step_fail.result c.args.line.now c.args.pairs.now c.step_fail.new.pairs c.args.self.now c.step_fail.new.self (ap fails c.in-Fail.is) c.step_fail.ensures.acts

@@ -184,3 +184,9 @@ returns-then-branch-clause-quiets c = λ is. absurd (not_quiet is)
 
 pub returns-clause-quiets : goal.returns-clause-quiets
 returns-clause-quiets c = λ is. fails_quietly c.args.pairs.now c.fail.new.pairs c.args.self.now c.args.line.now c.requires.line c.requires.fails
+
+pub returns-then-branch-clause-acts : goal.returns-then-branch-clause-acts
+returns-then-branch-clause-acts c = c.in_ok-fail.ensures.acts
+
+pub returns-clause-acts : goal.returns-clause-acts
+returns-clause-acts c = c.in_ok-fail.ensures.acts

@@ -100,3 +100,6 @@ pub returns-clause-quiets : goal.returns-clause-quiets
 returns-clause-quiets c = λ is.
     pushes_quietly c.args.pairs.now c.push_events.new.pairs c.go_on.new.pairs c.args.self.now c.go_on.new.self c.requires.script.seats c.push_events.ensures.driven c.push_events.ensures.clients
     c.in_ok-pushed.ensures.plainly (c.in_ok-moved.ensures.quiets (c.either.ensures.other is))
+
+pub returns-clause-acts : goal.returns-clause-acts
+returns-clause-acts c = record { pairs = c.push_events.new.pairs; pushes = c.in_ok-pushed.ensures.acts; goes = c.in_ok-moved.ensures.acts }
