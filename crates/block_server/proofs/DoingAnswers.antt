@@ -1,5 +1,5 @@
 -- What the answer to the oldest request does: it is written over it, and its entry is put, kept, or found its queue closed.
-use Rattle.std.proofs.Common.{◌≡◌, ◌⊎◌, inl, inr, ◌++◌, ◌+◌, ◌&&◌, ◌||◌, ℕ, Bool, true, false, cond, List, [], ◌∷◌, Option, Some, None, drop, append-nil, refl, sym, ◌∙◌, ap, subst}
+use Rattle.std.proofs.Common.{◌≡◌, ◌⊎◌, inl, inr, ◌++◌, ◌+◌, ◌&&◌, ◌||◌, ℕ, Bool, true, false, cond, List, [], ◌∷◌, Option, Some, None, arith, drop, length, append-nil, refl, sym, ◌∙◌, ap, subst}
 use Rattle.vio_num.specs.Entry.{is_srp_entry}
 use Rattle.vio_num.specs.declared.entry.Entry.{Entry}
 use Rattle.vio_num.specs.declared.history.Grant.{Grant}
@@ -9,10 +9,12 @@ use Rattle.vio_num.specs.declared.history.Served.{Served}
 use Rattle.vio_num.specs.declared.names.UnitId.{UnitId}
 use Rattle.crq_session.specs.EndState.{EndState, OnlySends}
 use Rattle.tce_window.specs.PortState.{PortPlace, PortState}
+use Rattle.tce_window.specs.declared.answers.Right.TheVariants.{Write}
+use Rattle.rdma_copy.specs.Copies.{MayHold}
 use Rattle.block_server.specs.Advances.{Advances}
 use Rattle.block_server.specs.Bearing.{BearsIn, IsAnswerPart}
 use Rattle.block_server.specs.Copied.{own_name}
-use Rattle.block_server.specs.Doings.{DoesOne, DoesTurn, Doing, DropsAll, IsAtRest, IsFree, KeepsEntry, KeepsNoAnswer, LosesEntry, PutsEntry, SettlesLines, SendsKept, StaysLine, StaysUnit, WritesAnswer, doing, entry_for}
+use Rattle.block_server.specs.Doings.{DoesOne, DoesTurn, Doing, DropsAll, IsAtRest, IsFree, KeepsEntry, KeepsNoAnswer, LosesEntry, PutsEntry, SettlesLogin, SendsKept, StaysLine, StaysUnit, WritesAnswer, doing, entry_for}
 use Rattle.block_server.specs.Ends.{EndsLogin}
 use Rattle.block_server.specs.Granting.{login_state}
 use Rattle.block_server.specs.Ranges.{Known, client_known, known_in, seen_in}
@@ -20,7 +22,7 @@ use Rattle.block_server.specs.Receipts.{Standing, is_down, is_ended, standing_of
 use Rattle.block_server.specs.Serving.{LeavesRow, SettlesRow}
 use Rattle.block_server.specs.SiteState.{SiteState}
 use Rattle.block_server.specs.Standing.{Stands}
-use Rattle.block_server.specs.Talk.{StaysKnown, settled_lines}
+use Rattle.block_server.specs.Talk.{SettlesLogins, StaysKnown, settled_lines}
 use Rattle.block_server.specs.declared.line.Kept.{Kept}
 use Rattle.block_server.specs.declared.line.Kept.TheVariants as keeps
 use Rattle.block_server.specs.declared.line.Line.{Line}
@@ -79,10 +81,11 @@ seen_alone shared port apart = ap (λ (b : Bool). cond b None (Some (known_in po
 pub writes_answer : (unit unit' : Unit) (old new : SiteState) (records : Records) (outcome : Outcome) (request : Request) (rest : List Request) → old.shared ≡ false
     → unit.pending.items ≡ request ∷ rest → unit.service.stage ≡ stages.Answer outcome → unit'.service.stage ≡ stages.Entry outcome → unit'.id ≡ unit.id
     → unit'.service.answer.items ≡ unit.service.answer.items → unit'.pending.items ≡ unit.pending.items → unit'.line ≡ unit.line → unit'.logins ≡ unit.logins
-    → new.queue ≡ old.queue → Advances old new → Stands new.client (own_name old.own request.tag) request.address unit.service.answer.items
+    → new.queue ≡ old.queue → Advances old new → MayHold old.client Write request.address (length unit.service.answer.items)
+    → Stands new.client (own_name old.own request.tag) request.address unit.service.answer.items
     → BearsIn (IsAnswerPart (own_name old.own request.tag) request.address unit.service.answer.items) (client_known old) (client_known new)
     → WritesAnswer (doing unit old records) (doing unit' new records)
-writes_answer unit unit' old new records outcome request rest apart parts at stage id answer pending line logins queue advances stands bears = record {
+writes_answer unit unit' old new records outcome request rest apart parts at stage id answer pending line logins queue advances may stands bears = record {
   stays = unit_queue unit unit' old new records records advances.own_place id (ap (λ (l : Logins). l.granted) logins) queue;
   line = line_queue unit unit' old new records records (ap is_ended line) (ap (λ (l : Line). l.handshake) line) queue;
   outcome = outcome;
@@ -100,6 +103,7 @@ writes_answer unit unit' old new records outcome request rest apart parts at sta
   pending = parts;
   pends = pending;
   place = advances.client_place;
+  may = may;
   stands = stands;
   bears = subst (λ (z : Option Known × Option Known). BearsIn (IsAnswerPart (own_name old.own request.tag) request.address unit.service.answer.items) z.0 z.1)
       (λ i. (seen_alone old.shared old.client apart i, seen_alone new.shared new.client (advances.shared ∙ apart) i)) bears;
@@ -135,11 +139,17 @@ refused_drops unit mid unit' old new records records' outcome session cause outs
 
 -- ITS ENTRY --------------------------------------------------------------------------------------
 
-settled_as : (outcome : Outcome) (id : UnitId) (session : ℕ) (logins : Logins) (lines lines' : List Grant) → lines' ≡ lines ++ settled_lines outcome id session logins
-    → SettlesLines outcome id logins.granted lines lines'
-settled_as (outcomes.Granted number) id session logins lines lines' added = (session, logins.last + 1, added)
-settled_as outcomes.Rejected id session logins lines lines' added = added ∙ append-nil lines
-settled_as (outcomes.Served row) id session logins lines lines' added = added ∙ append-nil lines
+settled_as : (outcome : Outcome) (id : UnitId) (session : ℕ) (logins logins' : Logins) (lines lines' : List Grant) → SettlesLogins outcome logins logins'
+    → lines' ≡ lines ++ settled_lines outcome id session logins → SettlesLogin outcome id (login_state logins) (login_state logins') lines lines'
+settled_as (outcomes.Granted number) id session logins logins' lines lines' begins added = record {
+  session = session;
+  login = logins.last + 1;
+  some = omega arith;
+  on = λ i. record { granted = begins.granted i; current = begins.current i };
+  line = added;
+}
+settled_as outcomes.Rejected id session logins logins' lines lines' same added = (ap login_state same, added ∙ append-nil lines)
+settled_as (outcomes.Served row) id session logins logins' lines lines' counts added = (λ i. record { granted = counts.granted i; current = counts.current i }, added ∙ append-nil lines)
 
 -- It was put, and the request is served.
 pub puts_entry : (link : Bool) (unit unit' : Unit) (old new : SiteState) (records records' : Records) (outcome : Outcome) (request : Request) (rest : List Request) (session : ℕ) (entry : Entry)
@@ -147,9 +157,9 @@ pub puts_entry : (link : Bool) (unit unit' : Unit) (old new : SiteState) (record
     → reaches_of old.queue ≡ true → PutsOrLoses old.queue new.queue entry → OnlySends link old.queue new.queue → new.own.place ≡ old.own.place → new.client ≡ old.client
     → standing_of unit' ≡ standing_of unit → unit'.line.handshake ≡ unit.line.handshake → unit'.service.stage ≡ stages.Start → unit'.line.kept ≡ None
     → unit'.pending.items ≡ drop 1 unit.pending.items → SettlesRow outcome unit.service.answer.items records.history.items records'.history.items
-    → records'.grants.items ≡ records.grants.items ++ settled_lines outcome unit.id session unit.logins
+    → SettlesLogins outcome unit.logins unit'.logins → records'.grants.items ≡ records.grants.items ++ settled_lines outcome unit.id session unit.logins
     → PutsEntry (doing unit old records) (doing unit' new records')
-puts_entry link unit unit' old new records records' outcome request rest session entry alone at parts entry_is reach sent only own client stands handshake stage kept pending row lines = record {
+puts_entry link unit unit' old new records records' outcome request rest session entry alone at parts entry_is reach sent only own client stands handshake stage kept pending row logins lines = record {
   stays = unit_sends link unit unit' old new records records' alone only own (ap (λ (s : Standing). s.id) stands) (ap (λ (s : Standing). s.granted) stands);
   line = line_sends link unit unit' old new records records' only (ap (λ (s : Standing). s.ended) stands) handshake;
   reaches = reach;
@@ -163,7 +173,7 @@ puts_entry link unit unit' old new records records' outcome request rest session
   pending = dropped unit.pending.items unit'.pending.items rest request parts pending;
   sent = subst (PutsOrLoses old.queue new.queue) entry_is sent;
   rows = row;
-  lines = settled_as outcome unit.id session unit.logins records.grants.items records'.grants.items lines;
+  logins = settled_as outcome unit.id session unit.logins unit'.logins records.grants.items records'.grants.items logins lines;
 }
 
 -- It met a closed queue.

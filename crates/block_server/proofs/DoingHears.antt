@@ -5,14 +5,14 @@ use Rattle.std.proofs.lemmas.Bool.{eqb-true}
 use Rattle.byteorder.specs.Numbers.{big_number-reads_back}
 use Rattle.vio_num.specs.Entry.{entry_format, first_byte, is_srp_entry, iu_address, iu_length, kind_of}
 use Rattle.vio_num.specs.declared.entry.Entry.{Entry}
-use Rattle.vio_num.specs.declared.entry.Kind.TheVariants.{Event, Init}
+use Rattle.vio_num.specs.declared.entry.Kind.TheVariants.{Command, Event, Init}
 use Rattle.crq_ring.specs.Sessions.{of_session}
 use Rattle.crq_ring.specs.declared.rows.PipeRow.{PipeRow}
 use Rattle.crq_session.specs.EndState.{EndCounts, OnlyReserves, OnlyTakes}
 use Rattle.crq_session.specs.Handshake.{state_after, step_after, step_entry}
 use Rattle.crq_session.specs.declared.handshake.Handshake.{Handshake}
 use Rattle.crq_session.specs.declared.handshake.Handshake.TheVariants.{Up}
-use Rattle.block_server.specs.Doings.{DoesFreely, DoesOne, Doing, DropsAll, HearsDatagram, HearsInit, IsFree, IsOnLogin, KeepsNoAnswer, PassesEntry, SendsOrKeeps, SendsReply, TakesRequest, before_hearing, doing}
+use Rattle.block_server.specs.Doings.{AsksNothing, DoesFreely, DoesOne, Doing, DropsAll, HearsDatagram, HearsInit, IsFree, IsOnLogin, KeepsNoAnswer, PassesEntry, SendsOrKeeps, SendsReply, TakesRequest, before_hearing, doing}
 use Rattle.block_server.specs.Decided.{Decides, DecidesOrder}
 use Rattle.block_server.specs.Entries.{datagram_answer}
 use Rattle.block_server.specs.Granting.{LoginState}
@@ -20,7 +20,7 @@ use Rattle.block_server.specs.Receipts.{is_down}
 use Rattle.block_server.specs.SiteState.{SiteState}
 use Rattle.block_server.specs.Talk.{IsReadWhole, StaysKnown, to_come}
 use Rattle.block_server.specs.declared.intake.Verdict.{Verdict}
-use Rattle.block_server.specs.declared.intake.Verdict.TheVariants.{Accepted}
+use Rattle.block_server.specs.declared.intake.Verdict.TheVariants.{Accepted, Ignored}
 use Rattle.block_server.specs.declared.logins.Logins.{Logins}
 use Rattle.block_server.specs.declared.records.Records.{Records}
 use Rattle.block_server.specs.declared.request.Arrival.{Arrival}
@@ -54,8 +54,9 @@ came_doing unit old new records arrival waits came kept client own = λ i. recor
 pub passes_entry : (arrival : Arrival) (at new : Doing) → new.name ≡ at.name → new.id ≡ at.id → new.partner ≡ at.partner → new.to ≡ at.to → new.logins ≡ at.logins → new.waiting ≡ None
     → new.stage ≡ at.stage → new.answer ≡ at.answer → new.pending ≡ at.pending → new.ended ≡ at.ended → new.handshake ≡ at.handshake → new.event ≡ at.event → new.reaches ≡ at.reaches
     → new.kept ≡ at.kept → new.coming ≡ at.coming → new.sent ≡ at.sent → StaysKnown at.client new.client
-    → new.rows ≡ at.rows → new.lines ≡ at.lines → kind_of (first_byte arrival.entry) ≢ Init → kind_of (first_byte arrival.entry) ≢ Event → PassesEntry (before_hearing arrival at) new
-passes_entry arrival at new name id partner to logins waiting stage answer pending ended handshake event reaches kept coming sent known rows lines no_init no_event = record {
+    → new.rows ≡ at.rows → new.lines ≡ at.lines → kind_of (first_byte arrival.entry) ≢ Init → kind_of (first_byte arrival.entry) ≢ Event
+    → (is_srp_entry arrival.entry ≡ true → AsksNothing (before_hearing arrival at) arrival.entry) → PassesEntry (before_hearing arrival at) new
+passes_entry arrival at new name id partner to logins waiting stage answer pending ended handshake event reaches kept coming sent known rows lines no_init no_event nothing = record {
   stays = record { name = name; id = id; granted = ap (λ (l : LoginState). l.granted) logins; partner = partner; to = to };
   aside = record {
     served = record { stage = stage; answer = answer; pending = pending };
@@ -72,6 +73,7 @@ passes_entry arrival at new name id partner to logins waiting stage answer pendi
   heard = ap (λ (list : List Entry). arrival.entry ∷ list) (sym coming);
   no_init = no_init;
   no_event = no_event;
+  nothing = nothing;
 }
 
 -- It carries a request, which is pending.
@@ -268,9 +270,10 @@ still_doing link unit old mid new records alone reserves takes taken client own 
         (λ i. ((takes.last_session ∙ reserves.last_session) i, (taken ∙ reserves.taken) i, ((takes.place ∙ reserves.place) i).received))
 
 -- nothing is due for what was heard
-pub passes_same : (arrival : Arrival) (at : Doing) → at.waiting ≡ None → kind_of (first_byte arrival.entry) ≢ Init → kind_of (first_byte arrival.entry) ≢ Event → PassesEntry (before_hearing arrival at) at
-passes_same arrival at waits no_init no_event =
-    passes_entry arrival at at refl refl refl refl refl waits refl refl refl refl refl refl refl refl refl refl (known_same at.client) refl refl no_init no_event
+pub passes_same : (arrival : Arrival) (at : Doing) → at.waiting ≡ None → kind_of (first_byte arrival.entry) ≢ Init → kind_of (first_byte arrival.entry) ≢ Event → ¬ (is_srp_entry arrival.entry ≡ true)
+    → PassesEntry (before_hearing arrival at) at
+passes_same arrival at waits no_init no_event no_srp =
+    passes_entry arrival at at refl refl refl refl refl waits refl refl refl refl refl refl refl refl refl refl (known_same at.client) refl refl no_init no_event (λ srp. absurd (no_srp srp))
 
 -- a command is no entry of the initialisation, and no event
 pub command_init : (entry : Entry) → first_byte entry ≡ 0x80 → kind_of (first_byte entry) ≢ Init
@@ -285,6 +288,24 @@ srp_first entry srp = eqb-true (first_byte entry) 0x80 (front (first_byte entry 
     front : (a b : Bool) → (a && b) ≡ true → a ≡ true
     front true b is = refl
     front false b is = absurd (cc (is))
+
+-- only a command is an SRP entry, and only one of its format
+pub other_srp : (entry : Entry) → kind_of (first_byte entry) ≢ Command → ¬ (is_srp_entry entry ≡ true)
+other_srp entry other srp = other (ap kind_of (srp_first entry srp))
+
+pub format_srp : (entry : Entry) → entry_format entry ≢ 0x01 → ¬ (is_srp_entry entry ≡ true)
+format_srp entry other srp = other (eqb-true (entry_format entry) 0x01 (behind (first_byte entry == 0x80) (entry_format entry == 0x01) srp))
+  where
+    behind : (a b : Bool) → (a && b) ≡ true → b ≡ true
+    behind true b is = is
+    behind false b is = absurd (cc (is))
+
+-- What is judged asks nothing.
+pub ignored_asks : (arrival : Arrival) (at : Doing) (old new : Logins) (bytes : List ℕ) (verdict : Verdict) → verdict ≡ Ignored → Decides old new bytes verdict → at.handshake ≡ Up → at.ended ≡ false
+    → length bytes ≡ iu_length arrival.entry → IsReadWhole at.client (iu_address arrival.entry) bytes → AsksNothing (before_hearing arrival at) arrival.entry
+ignored_asks arrival at old new bytes verdict is decides up going long read =
+    let decided = subst (Decides old new bytes) is decides in
+    record { up = up; going = going; bytes = bytes; long = long; read = read; iu = decided.1.0; spelled = decided.1.1.0; ignored = decided.1.1.1 }
 
 pub hearing_free : (arrival : Arrival) (at : Doing) → at.waiting ≡ None → IsFree (before_hearing arrival at) → IsFree at
 hearing_free arrival at waiting free = record { waiting = waiting; stage = free.stage; kept = free.kept }

@@ -29,6 +29,7 @@ pub mod Named
 pub mod Denying
 pub mod Hearing
 pub mod HeardLaws
+pub mod HeardOuts
 pub mod Opening
 pub mod Owning
 pub mod Putting
@@ -44,6 +45,7 @@ pub mod Gathering
 pub mod Writing
 pub mod Offering
 pub mod Onces
+pub mod ServedOuts
 pub mod Serves
 pub mod Plains
 pub mod LoginPuts

@@ -56,7 +56,7 @@ drop_next (y ∷ ys) (suc n) x is = drop_next ys n x is ∙ ap (λ (k : ℕ). x 
     at = omega arith
 
 -- nothing is left behind a whole list
-drop_whole : {X : Type 0} (xs : List X) → drop (length xs) xs ≡ []
+pub drop_whole : {X : Type 0} (xs : List X) → drop (length xs) xs ≡ []
 drop_whole [] = refl
 drop_whole (x ∷ xs) = drop_whole xs
 

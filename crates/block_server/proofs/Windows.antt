@@ -5,8 +5,9 @@ use Rattle.page_slots.specs.declared.stroke.StrokeName.{StrokeName}
 use Rattle.tce_window.specs.declared.piece.Piece.{Piece}
 use Rattle.tce_window.specs.declared.answers.OwnFault.{OwnFault}
 use Rattle.tce_window.specs.Moved.{IsLaid, strokes_on}
+use Rattle.tce_window.specs.Pieces.{IsUsable}
 use Rattle.tce_window.specs.Port.{Grows, IsWritten, Later}
-use Rattle.tce_window.specs.PortState.{PortState, LaysNone, OnlyReads, OnlyWrites, Writes}
+use Rattle.tce_window.specs.PortState.{PortPlace, PortState, LaysNone, OnlyReads, OnlyWrites, Writes}
 use Rattle.tce_window.specs.Region.{touches, stroke_on, written}
 use Rattle.tce_window.specs.Strokes.{with_strokes}
 use Rattle.rdma_copy.specs.declared.copy.CopyRecord.{CopyRecord}
@@ -14,13 +15,13 @@ use Rattle.rdma_copy.specs.declared.copy.CopyAnswer.{CopyAnswer}
 use Rattle.rdma_copy.specs.declared.copy.CopyAnswer.TheVariants as copies
 use Rattle.vio_num.specs.Counts.{Rose}
 use Rattle.tce_window.specs.declared.answers.Right.TheVariants.{Read, Write}
-use Rattle.rdma_copy.specs.Answers.{CountsCopy, IfBusy, IfCopied, IsBusySide, OnRefused}
+use Rattle.rdma_copy.specs.Answers.{CountsCopy, IfBusy, IfCopied, IsBusySide, OnHeld, OnRefused}
 use Rattle.rdma_copy.specs.Copies.{Copies, MayHold, OnlyCopies, side_of}
 use Rattle.rdma_copy.specs.Copy.{SideGrows}
 use Rattle.rdma_copy.proofs.Laws.{later_begins, learns_grows}
 use Rattle.crq_session.specs.EndState.{EndState}
 use Rattle.block_server.specs.Advances.{Advances, CopiesMore, StayNamed}
-use Rattle.block_server.specs.Copied.{IsBusy, copies_in}
+use Rattle.block_server.specs.Copied.{IsBusy, IsMade, copies_in}
 use Rattle.block_server.specs.Ready.{FindsUse}
 use Rattle.block_server.specs.Makers.{AreNamed}
 use Rattle.block_server.specs.OwnerStrokes.{LaysNoneOfOwner}
@@ -194,3 +195,19 @@ deliver_busy own_shared shared own own' client client' address at len found own_
 deliver_busy own_shared shared own own' client client' address at len found own_found (copies.SourceParm fault) alone busy counts is = absurd is
 deliver_busy own_shared shared own own' client client' address at len found own_found (copies.DestParm fault) alone busy counts is = absurd is
 deliver_busy own_shared shared own own' client client' address at len found own_found copies.NoMemory alone busy counts is = absurd is
+
+-- A copy was made, so its target's range could be held; and where nobody else has a hand in that window, as it was before.
+pub held_before : {T E : Type 0} (shared : Bool) (source target target' : PortState) (from address len : ℕ) (answer : CopyAnswer) (result : Result T E) → 1 ≤ len → OnOk result (IsMade answer)
+    → OnHeld answer (1 ≤ len → MayHold source Read from len × MayHold target' Write address len) → OnlyCopies shared target target' → OnOk result (shared ≡ false → MayHold target Write address len)
+held_before shared source target target' from address len answer (Err halt) some made held only = tt
+held_before shared source target target' from address len answer (Ok done) some made held only = λ alone.
+    let same = subst (λ (b : Bool). (e : ℕ) → Later b (target.values e) (target'.values e)) alone only.values in
+    subst (λ (z : PortPlace × (ℕ → List ℕ)). IsUsable z.1 Write z.0.size address len) (λ i. (only.place i, λ e. same e i)) (by answer made held)
+  where
+    by : (a : CopyAnswer) → IsMade a → OnHeld a (1 ≤ len → MayHold source Read from len × MayHold target' Write address len) → MayHold target' Write address len
+    by (copies.Copied copy) made held = (held some).1
+    by copies.Parameter made held = absurd made
+    by (copies.SourceParm fault) made held = absurd made
+    by (copies.DestParm fault) made held = absurd made
+    by (copies.Busy page word) made held = absurd made
+    by copies.NoMemory made held = absurd made

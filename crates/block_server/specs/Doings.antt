@@ -1,6 +1,6 @@
 -- What a turn of a unit does, whatever comes, where nobody else has a hand in the link or in the client's window: small steps, one behind the
 -- other.
-use Rattle.std.specs.Prelude.{◌≡◌, ◌≢◌, ◌⊎◌, ◌++◌, ◌&&◌, ℕ, Bool, true, false, ⊤, List, [], ◌∷◌, Option, Some, None, MatchOption, length, map, slice_get, if◌then◌else◌}
+use Rattle.std.specs.Prelude.{◌≡◌, ◌≢◌, ◌⊎◌, ◌++◌, ◌&&◌, ◌≤◌, ℕ, Bool, true, false, ⊤, List, [], ◌∷◌, Option, Some, None, MatchOption, length, map, slice_get, if◌then◌else◌}
 use Rattle.vio_num.specs.Entry.{first_byte, initialize, kind_of, partner_freed}
 use Rattle.vio_num.specs.declared.entry.Kind.TheVariants.{Command, Event, Init}
 use Rattle.crq_session.specs.Handshake.{state_after, step_after, step_entry}
@@ -18,8 +18,13 @@ use Rattle.vio_num.specs.declared.names.UnitId.{UnitId}
 use Rattle.page_slots.specs.declared.stroke.StrokeName.{StrokeName}
 use Rattle.crq_ring.specs.declared.rows.PipeRow.{PipeRow}
 use Rattle.crq_session.specs.EndState.{EndState}
+use Rattle.srp_iu.specs.Grammar.{Spells}
+use Rattle.srp_iu.specs.declared.unit.Iu.{Iu}
 use Rattle.tce_window.specs.PortState.{PortState}
+use Rattle.tce_window.specs.declared.answers.Right.TheVariants.{Write}
+use Rattle.rdma_copy.specs.Copies.{MayHold}
 use Rattle.block_server.specs.Bearing.{BearsRow, BearsWithin, IsAnswerPart}
+use Rattle.block_server.specs.Fates.{IsIgnored}
 use Rattle.block_server.specs.Granting.{LoginState, login_state}
 use Rattle.block_server.specs.Judged.{row_in}
 use Rattle.block_server.specs.Ranges.{known_in}
@@ -268,7 +273,19 @@ pub record HearsDatagram (old new : Doing) : Type 0 where
   pub kind : kind_of (first_byte entry) ≡ Command
   pub sent : SendsOrKeeps old new (datagram_answer entry.low)
 
--- Another entry was heard, or one whose information unit is not for a server: nothing is due for it.
+-- The information unit of an SRP entry was read whole at its address, as the window shows it, in a session that goes on; and it is none that asks a
+-- server for anything: no login, no logout, no task and no command.
+pub record AsksNothing (old : Doing) (entry : Entry) : Type 0 where
+  pub up : old.handshake ≡ Up
+  pub going : old.ended ≡ false
+  pub bytes : List ℕ
+  pub long : length bytes ≡ iu_length entry
+  pub read : IsReadWhole old.client (iu_address entry) bytes
+  pub iu : Iu
+  pub spelled : Spells bytes iu
+  pub ignored : IsIgnored iu
+
+-- Another entry was heard, or one whose information unit asks nothing: nothing is due for it.
 pub record PassesEntry (old new : Doing) : Type 0 where
   pub stays : StaysUnit old new
   pub aside : StaysAside old new
@@ -279,6 +296,7 @@ pub record PassesEntry (old new : Doing) : Type 0 where
   pub heard : old.coming ≡ entry ∷ new.coming
   pub no_init : kind_of (first_byte entry) ≢ Init
   pub no_event : kind_of (first_byte entry) ≢ Event
+  pub nothing : is_srp_entry entry ≡ true → AsksNothing old entry
 
 -- An SRP entry was heard, in a session that goes on: its information unit was read at its address, as the window shows it, and is a request that is
 -- pending behind all.
@@ -389,6 +407,8 @@ pub record WritesAnswer (old new : Doing) : Type 0 where
   pub pending : old.pending ≡ request ∷ rest
   pub pends : new.pending ≡ old.pending
   pub place : new.client.place ≡ old.client.place
+  -- the client's window let it be written there
+  pub may : MayHold old.client Write request.address (length old.answer)
   pub stands : Stands new.client (name_for old.name request) request.address old.answer
   pub bears : BearsWithin (IsAnswerPart (name_for old.name request) request.address old.answer) (known_in old.client) (known_in new.client)
 
@@ -414,10 +434,18 @@ pub record KeepsEntry (old new : Doing) : Type 0 where
   pub logins : new.logins ≡ old.logins
   pub lines : new.lines ≡ old.lines
 
--- A line says that a login began, if one did.
-abbrev pub SettlesLines : Outcome → UnitId → (granted : ℕ) → (lines lines' : List Grant) → Type 0
-SettlesLines (outcomes.Granted number) id granted lines lines' = (session login : ℕ) × (lines' ≡ lines ++ Granted id session login number granted ∷ [])
-SettlesLines outcome id granted lines lines' = lines' ≡ lines
+-- A login began: it is on, under a number of its own, and a line says so.
+pub record StartsLogin (number : ℕ) (id : UnitId) (logins logins' : LoginState) (lines lines' : List Grant) : Type 0 where
+  pub session : ℕ
+  pub login : ℕ
+  pub some : 1 ≤ login
+  pub on : logins' ≡ record logins { current = login }
+  pub line : lines' ≡ lines ++ Granted id session login number logins.granted ∷ []
+
+-- what an answer that was put leaves of the login that is on, and of the lines: a login that it grants began, and any other changes neither
+abbrev pub SettlesLogin : Outcome → UnitId → (logins logins' : LoginState) → (lines lines' : List Grant) → Type 0
+SettlesLogin (outcomes.Granted number) id logins logins' lines lines' = StartsLogin number id logins logins' lines lines'
+SettlesLogin outcome id logins logins' lines lines' = (logins' ≡ logins) × (lines' ≡ lines)
 
 -- It was put, and the request is served: its login begins, or its row has its answer.
 pub record PutsEntry (old new : Doing) : Type 0 where
@@ -434,7 +462,7 @@ pub record PutsEntry (old new : Doing) : Type 0 where
   pub pending : old.pending ≡ request ∷ new.pending
   pub sent : Sends old new (entry_for request old.answer ∷ [])
   pub rows : SettlesRow outcome old.answer old.rows new.rows
-  pub lines : SettlesLines outcome old.id old.logins.granted old.lines new.lines
+  pub logins : SettlesLogin outcome old.id old.logins new.logins old.lines new.lines
 
 -- It met a closed queue: the request is served, and nobody is told.
 pub record LosesEntry (old new : Doing) : Type 0 where

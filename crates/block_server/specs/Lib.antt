@@ -20,6 +20,7 @@ pub mod Fetched
 pub mod Formed
 pub mod Granting
 pub mod Heard
+pub mod HeardOut
 pub mod Judged
 pub mod Judges
 pub mod Kept

@@ -1,7 +1,7 @@
 // Answering: what is put into the client's queue, and what ends a login.
-ghost use Rattle.block_server.specs.Doings.{DoesOne, DoesTurn, DropsAll, IsAtRest, SendsReply, WritesAnswer, doing};
-ghost use Rattle.block_server.specs.Talk.{CopiesAnswer, HasRoomFor, IsAnswerAt, IsReplied, LogsOut, MayWriteAnswer, PutsAnswer, SettlesLogins, StaysKnown, reach_of, settled_lines};
-ghost use Rattle.std.specs.Prelude.{◌≡◌, ◌≢◌, ◌⊎◌, ◌+◌, ◌<◌, ◌∷◌, ◌++◌, ℕ, Bool, List, None, Some, IfOk, OnOk, drop, false, length, slice_get, true};
+ghost use Rattle.block_server.specs.Doings.{DoesOne, DoesTurn, DropsAll, IsAtRest, WritesAnswer, doing};
+ghost use Rattle.block_server.specs.Talk.{CopiesAnswer, HasRoomFor, IsAnswerAt, LogsOut, MayWriteAnswer, PutsAnswer, SettlesLogins, StaysKnown, settled_lines};
+ghost use Rattle.std.specs.Prelude.{◌≡◌, ◌≢◌, ◌⊎◌, ◌+◌, ◌<◌, ◌≤◌, ◌∷◌, ◌++◌, ℕ, Bool, List, None, Some, IfOk, OnOk, drop, false, length, slice_get, true};
 ghost use Rattle.block_server.specs.Advances.{Advances};
 ghost use Rattle.block_server.specs.Bearing.{BearsIn, IsAnswerPart};
 ghost use Rattle.block_server.specs.Books.{books_at, books_of};
@@ -11,10 +11,11 @@ ghost use Rattle.block_server.specs.declared.service.Service.{Service};
 ghost use Rattle.vio_num.specs.declared.history.Served.{Served};
 ghost use Rattle.vio_num.specs.declared.names.UnitId.{UnitId};
 ghost use Rattle.block_server.specs.Ends.{EndsLogin};
-ghost use Rattle.block_server.specs.Entries.{IsPlain, MayPut, is_answer_len};
+ghost use Rattle.block_server.specs.Entries.{MayPut, is_answer_len};
 ghost use Rattle.block_server.specs.Serving.{AnswersOnce, AnswersOnceBy, AsNone, IsAnswerKept, IsServing, LeavesRow, SettlesRow, Terms, desk_of};
 ghost use Rattle.crq_session.specs.EndState.{EndState};
 ghost use Rattle.block_server.specs.Decided.{EndsBooks};
+ghost use Rattle.block_server.specs.HeardOut.{CopiesOrEnds, HasNoRoom, HearsNone, ServesOrStops, StaysBusy};
 ghost use Rattle.block_server.specs.Judges.{Judges};
 ghost use Rattle.block_server.specs.Judged.{Ahead, Keeps, gets_row, is_login, is_logout, keys_of};
 ghost use Rattle.block_server.specs.LoginAnswers.{login_put};
@@ -32,6 +33,8 @@ ghost use Rattle.block_server.specs.Steps.{ComesOn, NoStage, ToEntry};
 ghost use Rattle.block_server.specs.Turns.{IfQuiet};
 ghost use Rattle.block_server.specs.Waits.{AsNext, IsEntryDue, IsHeldUp, IsPending, MeetsUse, PassesKept, StaysAgreed};
 ghost use Rattle.vio_num.specs.Entry.{srp_entry};
+ghost use Rattle.rdma_copy.specs.Copies.{MayHold};
+ghost use Rattle.tce_window.specs.declared.answers.Right.TheVariants.{Write};
 ghost use Rattle.block_server.specs.declared.request.Request.{Request};
 ghost use Rattle.block_server.specs.declared.service.Outcome.{Outcome};
 ghost use Rattle.block_server.specs.Records.{HasLineRoom};
@@ -47,54 +50,6 @@ use crate::unit::Unit;
 use crq_session::SendAnswer;
 use srp_iu::bytes_spell_one;
 use vio_num::{Entry, Grant, Lapse, NoMemory};
-
-/// Puts an entry of the initialisation, or the answer to a datagram. It is kept where the client's queue is full,
-/// and discarded where that is closed.
-pub(crate) fn put_reply<S: Site>(unit: &mut Unit, site: &mut S, reply: Entry) -> Next
-    requires room { 0 < (S.state site.old).queue.spare }
-    requires may { MayPut reply }
-    requires plain { IsPlain reply }
-    ensures still { result ≢ Next.End → unit.new.line.kept ≡ unit.old.line.kept }
-    ensures comes { ComesOn NoStage unit.old unit.new
-        (S.state site.old).queue (S.state site.new).queue }
-    ensures once { (records : Records) → AnswersOnce (desk_of unit.old) (desk_of unit.new)
-        (S.state site.old).queue (S.state site.new).queue records records }
-    ensures kept { result ≡ Next.End → unit.new.line.kept ≡ Some (Kept.Reply reply) }
-    ensures quiet { IfQuiet unit.old unit.new (S.state site.old).queue (S.state site.new).queue }
-    ensures agrees { StaysAgreed unit.old unit.new
-        (S.state site.old).queue (S.state site.new).queue }
-    ensures advances { Advances (S.state site.old) (S.state site.new) }
-    ensures stands { standing_of unit.new ≡ standing_of unit.old }
-    ensures passes { Passes (S.state site.old) (S.state site.new) }
-    ensures books { (records : Records) → Keeps (books_at unit.old (S.state site.old) records)
-        (books_at unit.new (S.state site.new) records) }
-    ensures answers { (records : Records) → KeepsAnswers S.link_shared unit.old unit.new
-        (S.state site.old) (S.state site.new) records records }
-    ensures cargo { (records : Records) → cargo_of unit.new (S.state site.new) records ≡
-        cargo_of unit.old (S.state site.old) records }
-    ensures refuses { (records : Records) → Explains (ledger_of unit.old (S.state site.old) records)
-        (ledger_of unit.new (S.state site.new) records) }
-    ensures hears { S.link_shared ≡ false → (S.state site.old).queue.registered ≡ true →
-        HasRoomFor (S.state site.old).queue 1 → (result ≡ Next.Entry) ×
-        IsReplied unit.old unit.new
-        (reach_of (S.state site.old)) (reach_of (S.state site.new)) reply }
-    ensures event { (S.state site.new).queue.kept ≡ (S.state site.old).queue.kept }
-    ensures service { unit.new.service ≡ unit.old.service }
-    ensures aside { (records : Records) → S.link_shared ≡ false → SendsReply (doing unit.old
-        (S.state site.old) records) (doing unit.new (S.state site.new) records) reply }
-{
-    match site.send(reply) {
-        SendAnswer::Dropped { .. } => {
-            unit.line.kept = Some(Kept::Reply(reply));
-            Next::End
-        }
-        SendAnswer::Success { .. } => {
-            unit.moved = true;
-            Next::Entry
-        }
-        _ => Next::Entry,
-    }
-}
 
 /// Ends the session for a cause that counts nothing.
 pub(crate) fn end_session(
@@ -118,10 +73,9 @@ pub(crate) fn end_session(
     ensures cuts { (q : EndState) → session ≡ q.last_session → is_logout cause ≡ false →
         HasAnswers (owing_of unit.old q records.old) → AreCutOff unit.old.id
         (row_states records.new.history.items) records.new.grants.items }
-    ensures cargo { (shown shown' : Sight) →
-        shown'.pages.count ≡ shown.pages.count → KeepsCargo
-        (cargo_at unit.old.id unit.old.service shown records.old.history.items)
-        (cargo_at unit.new.id unit.new.service shown' records.new.history.items) }
+    ensures cargo { (shown shown' : Sight) → shown'.pages.count ≡ shown.pages.count → KeepsCargo
+        (cargo_at unit.old.id unit.old.service shown records.old.history.items) (cargo_at
+        unit.new.id unit.new.service shown' records.new.history.items) }
     ensures row { LeavesRow unit.old.service.stage unit.old.service.given.items
         records.old.history.items records.new.history.items }
 {
@@ -154,10 +108,9 @@ pub(crate) fn end_counted(
     ensures cuts { (q : EndState) → session ≡ q.last_session → is_logout cause ≡ false →
         HasAnswers (owing_of unit.old q records.old) → AreCutOff unit.old.id
         (row_states records.new.history.items) records.new.grants.items }
-    ensures cargo { (shown shown' : Sight) →
-        shown'.pages.count ≡ shown.pages.count → KeepsCargo
-        (cargo_at unit.old.id unit.old.service shown records.old.history.items)
-        (cargo_at unit.new.id unit.new.service shown' records.new.history.items) }
+    ensures cargo { (shown shown' : Sight) → shown'.pages.count ≡ shown.pages.count → KeepsCargo
+        (cargo_at unit.old.id unit.old.service shown records.old.history.items) (cargo_at
+        unit.new.id unit.new.service shown' records.new.history.items) }
     ensures row { LeavesRow unit.old.service.stage unit.old.service.given.items
         records.old.history.items records.new.history.items }
 {
@@ -184,10 +137,9 @@ pub(crate) fn lose_partner(unit: &mut Unit, session: u64, records: &mut Records)
     ensures cuts { (q : EndState) → session ≡ q.last_session →
         HasAnswers (owing_of unit.old q records.old) → AreCutOff unit.old.id
         (row_states records.new.history.items) records.new.grants.items }
-    ensures cargo { (shown shown' : Sight) →
-        shown'.pages.count ≡ shown.pages.count → KeepsCargo
-        (cargo_at unit.old.id unit.old.service shown records.old.history.items)
-        (cargo_at unit.new.id unit.new.service shown' records.new.history.items) }
+    ensures cargo { (shown shown' : Sight) → shown'.pages.count ≡ shown.pages.count → KeepsCargo
+        (cargo_at unit.old.id unit.old.service shown records.old.history.items) (cargo_at
+        unit.new.id unit.new.service shown' records.new.history.items) }
     ensures closing { unit.new.line.closing ≡ unit.old.line.closing }
     ensures row { LeavesRow unit.old.service.stage unit.old.service.given.items
         records.old.history.items records.new.history.items }
@@ -220,10 +172,9 @@ fn end_login(
     ensures cuts { (q : EndState) → session ≡ q.last_session → is_logout cause ≡ false →
         HasAnswers (owing_of unit.old q records.old) → AreCutOff unit.old.id
         (row_states records.new.history.items) records.new.grants.items }
-    ensures cargo { (shown shown' : Sight) →
-        shown'.pages.count ≡ shown.pages.count → KeepsCargo
-        (cargo_at unit.old.id unit.old.service shown records.old.history.items)
-        (cargo_at unit.new.id unit.new.service shown' records.new.history.items) }
+    ensures cargo { (shown shown' : Sight) → shown'.pages.count ≡ shown.pages.count → KeepsCargo
+        (cargo_at unit.old.id unit.old.service shown records.old.history.items) (cargo_at
+        unit.new.id unit.new.service shown' records.new.history.items) }
     ensures row { LeavesRow unit.old.service.stage unit.old.service.given.items
         records.old.history.items records.new.history.items }
 {
@@ -256,10 +207,9 @@ fn leave_row(unit: &mut Unit, records: &mut Records)
     ensures waiting { unit.new.waiting ≡ unit.old.waiting }
     ensures keys { keys_of records.new.history.items ≡ keys_of records.old.history.items }
     ensures states { row_states records.new.history.items ≡ row_states records.old.history.items }
-    ensures cargo { (shown shown' : Sight) →
-        shown'.pages.count ≡ shown.pages.count → KeepsCargo
-        (cargo_at unit.old.id unit.old.service shown records.old.history.items)
-        (cargo_at unit.new.id unit.new.service shown' records.new.history.items) }
+    ensures cargo { (shown shown' : Sight) → shown'.pages.count ≡ shown.pages.count → KeepsCargo
+        (cargo_at unit.old.id unit.old.service shown records.old.history.items) (cargo_at
+        unit.new.id unit.new.service shown' records.new.history.items) }
 {
     cut_data(&mut unit.service, records);
     unit.service.reset();
@@ -305,11 +255,10 @@ pub(crate) fn log_out(unit: &mut Unit, session: u64, records: &mut Records)
     ensures answers { (q : EndState) → (front : Request) → (rest : List Request) →
         unit.old.pending.items ≡ front ∷ rest → gets_row front.order ≡ false → HasAnswers (owing_of
         unit.old q records.old) → HasAnswers (owing_of unit.new q records.new) }
-    ensures cargo { (shown shown' : Sight) →
-        shown'.pages.count ≡ shown.pages.count →
-        is_loaded unit.old.service.stage ≡ false → KeepsCargo
-        (cargo_at unit.old.id unit.old.service shown records.old.history.items)
-        (cargo_at unit.new.id unit.new.service shown' records.new.history.items) }
+    ensures cargo { (shown shown' : Sight) → shown'.pages.count ≡ shown.pages.count → is_loaded
+        unit.old.service.stage ≡ false → KeepsCargo (cargo_at unit.old.id unit.old.service shown
+        records.old.history.items) (cargo_at unit.new.id unit.new.service shown'
+        records.new.history.items) }
     ensures refuses { (queue : ℕ) → (taken : List PipeRow) → (answers : List Entry) →
         (front : Request) → (rest : List Request) → session ≡ queue →
         unit.old.pending.items ≡ front ∷ rest → is_login front.order ≡ false → Explains
@@ -413,6 +362,10 @@ pub(crate) fn answer<S: Site>(
         S.link_shared ≡ false → (S.state site.old).shared ≡ false → unit.old.waiting ≡ None →
         is_ended unit.old.line ≡ false → OnOk result (DoesTurn (doing unit.old (S.state site.old)
         records.old) (doing unit.new (S.state site.new) records.new)) }
+    ensures hears { HearsNone unit.old unit.new (S.state site.old).queue (S.state site.new).queue }
+    ensures stops { (request : Request) → (rest : List Request) → (outcome : Outcome) →
+        IsAnswerAt unit.old.service.stage outcome → unit.old.pending.items ≡ request ∷ rest →
+        (S.state site.old).shared ≡ false → OnOk result (ServesOrStops unit.old unit.new) }
 {
     records.make_room()?;
     unit.logins.make_room()?;
@@ -493,6 +446,11 @@ fn copy_answer<S: Site>(
         (S.state site.old).shared ≡ false → OnOk result (WritesAnswer (doing unit.old (S.state
         site.old) records.old) (doing unit.new (S.state site.new) records.new) ⊎ DropsAll (doing
         unit.old (S.state site.old) records.old) (doing unit.new (S.state site.new) records.new)) }
+    ensures goes { unit.new.line.closing ≡ true ⊎ StaysBusy 0 unit.old unit.new }
+    ensures copies { (request : Request) → (rest : List Request) → (outcome : Outcome) →
+        IsAnswerAt unit.old.service.stage outcome → unit.old.pending.items ≡ request ∷ rest →
+        (S.state site.old).shared ≡ false →
+        OnOk result (CopiesOrEnds unit.old unit.new outcome) }
 {
     let Stage::Answer(outcome) = unit.service.stage else {
         return Ok(());
@@ -553,6 +511,10 @@ fn deliver<S: Site>(unit: &mut Unit, site: &mut S, outcome: Outcome) -> Result<P
         (rest : List Request) → unit.old.pending.items ≡ request ∷ rest →
         Stands (S.state site.new).client (own_name (S.state site.old).own request.tag)
         request.address unit.old.service.answer.items) }
+    ensures may { IfOk result (λ progress. progress ≡ Progress.Done → (S.state site.old).shared
+        ≡ false → (request : Request) → (rest : List Request) → unit.old.pending.items ≡ request ∷
+        rest → MayHold (S.state site.old).client Write request.address
+        (length unit.old.service.answer.items)) }
     ensures row { row_in unit.new.service.stage ≡ row_in unit.old.service.stage }
     ensures missed { IfOk result (λ progress. progress ≡ Progress.Refused → (S.state
         site.old).shared ≡ false → StaysKnown (S.state site.old).client (S.state site.new).client) }
@@ -629,6 +591,9 @@ fn put_answer<S: Site>(unit: &mut Unit, site: &mut S, records: &mut Records, out
     ensures free { (request : Request) → (rest : List Request) → unit.old.pending.items ≡ request
         ∷ rest → S.link_shared ≡ false → unit.old.waiting ≡ None → is_ended unit.old.line ≡ false
         → IsAtRest (doing unit.new (S.state site.new) records.new) }
+    ensures hears { HearsNone unit.old unit.new (S.state site.old).queue (S.state site.new).queue }
+    ensures stops { (request : Request) → (rest : List Request) →
+        unit.old.pending.items ≡ request ∷ rest → ServesOrStops unit.old unit.new }
 {
     let Some(request) = unit.pending.front() else {
         return;
@@ -698,6 +663,10 @@ pub(crate) fn put_kept<S: Site>(
     ensures does { S.link_shared ≡ false → IsAtRest (doing unit.old (S.state site.old)
         records.old) → OnOk result (DoesTurn (doing unit.old (S.state site.old) records.old)
         (doing unit.new (S.state site.new) records.new)) }
+    ensures keeps { IfOk result (λ next. next ≡ Next.End → unit.new.line.kept ≢ None) }
+    ensures pending { length unit.new.pending.items ≤ length unit.old.pending.items }
+    ensures full { S.link_shared ≡ false → IfOk result (λ next. next ≡ Next.End →
+        HasNoRoom (S.state site.new).queue) }
 {
     let Some(kept) = unit.line.kept else {
         return Ok(Next::Entry);

@@ -4,7 +4,7 @@ ghost use Rattle.block_server.specs.Talk.{IsReadWhole, StaysKnown};
 ghost use Rattle.vio_num.specs.Entry.{is_srp_entry};
 ghost use Rattle.block_server.specs.declared.service.Stage.{Stage};
 ghost use Rattle.block_server.specs.declared.service.Stage.TheVariants.{Start};
-ghost use Rattle.block_server.specs.Talk.{FitOneTurn, HasHeard, HasHeardAll, HearsFirst, IsAccepted, SaysRequest, IsListening, IsReceivedAs, MayAsk, Word, reach_of, talk_of};
+ghost use Rattle.block_server.specs.Talk.{FitOneTurn, HasHeard, HasHeardAll, HearsFirst, IsAccepted, SaysRequest, IsListening, IsReceivedAs, MayAsk, Word, reach_of, talk_of, to_come};
 ghost use Rattle.crq_session.specs.declared.handshake.Handshake.TheVariants.{Up};
 ghost use Rattle.srp_iu.specs.declared.unit.Iu.{Iu};
 ghost use Rattle.block_server.specs.Cargo.{KeepsCargo, Pages, cargo_of, cargo_with};
@@ -27,6 +27,7 @@ ghost use Rattle.block_server.specs.Receipts.{LinesMore, MayTake, Receipt, Takes
 ghost use Rattle.block_server.specs.SiteState.{SiteState};
 ghost use Rattle.block_server.specs.Books.{books_at, books_of};
 ghost use Rattle.block_server.specs.Decided.{Decides, IsCause, IsToJudge, JudgesOne, StaysOn};
+ghost use Rattle.block_server.specs.HeardOut.{BringsFew, BringsOne, FitsSlots, HearsNext, HearsOut};
 ghost use Rattle.block_server.specs.Judges.{Judges};
 ghost use Rattle.block_server.specs.Owed.{HasAnswers, KeepsAnswers, owing_of};
 ghost use Rattle.block_server.specs.Judged.{Ahead, Asks, Keeps, gets_row};
@@ -39,11 +40,12 @@ ghost use Rattle.block_server.specs.Causes.News.{fetched};
 ghost use Rattle.srp_iu.specs.Layout.{field};
 ghost use Rattle.block_server.specs.Orders.{IsOrder};
 
-use crate::answering::{end_counted, end_session, lose_partner, put_reply};
+use crate::answering::{end_counted, end_session, lose_partner};
 use crate::answers::datagram_answer;
 use crate::line::reply_of;
 use crate::logins::Logins;
 use crate::records::Records;
+use crate::replies::put_reply;
 use crate::request::{Arrival, Order, Request};
 use crate::site::{Halt, Site};
 use crate::unit::Unit;
@@ -153,6 +155,10 @@ pub(crate) fn take_in<S: Site>(
     ensures goes { S.link_shared ≡ false → (S.state site.old).shared ≡ false →
         is_ended unit.old.line ≡ false →
         IfOk result (λ next. next ≢ Next.End → is_ended unit.new.line ≡ false) }
+    ensures heard { S.link_shared ≡ false → FitsSlots (S.state site.old).queue → OnOk result
+        (HearsOut 256 (S.state site.old).shared unit.new (S.state site.new).queue) }
+    ensures brings { S.link_shared ≡ false → unit.old.waiting ≡ None → IfOk result (BringsFew
+        unit.old unit.new (S.state site.old).queue (S.state site.new).queue) }
 {
     let next = receive_waiting(unit, site, records)?;
     if next != Next::Entry {
@@ -219,6 +225,8 @@ fn receive_waiting<S: Site>(
         (S.state site.old) records.old) (doing unit.new (S.state site.new) records.new)) }
     ensures goes { (S.state site.old).shared ≡ false → is_ended unit.old.line ≡ false →
         IfOk result (λ next. next ≢ Next.End → is_ended unit.new.line ≡ false) }
+    ensures stops { IfOk result (λ next. next ≢ Next.Entry →
+        HearsOut 256 (S.state site.old).shared unit.new (S.state site.new).queue) }
 {
     let Some(arrival) = unit.waiting else {
         return Ok(Next::Entry);
@@ -309,6 +317,10 @@ fn take_one<S: Site>(unit: &mut Unit, site: &mut S, records: &mut Records) -> Re
         (S.state site.old) records.old) (doing unit.new (S.state site.new) records.new)) }
     ensures goes { (S.state site.old).shared ≡ false → is_ended unit.old.line ≡ false →
         IfOk result (λ next. next ≢ Next.End → is_ended unit.new.line ≡ false) }
+    ensures stops { S.link_shared ≡ false → IfOk result (HearsNext (S.state site.old).shared
+        unit.new (S.state site.old).queue (S.state site.new).queue) }
+    ensures brings { S.link_shared ≡ false → IfOk result (BringsFew
+        unit.old unit.new (S.state site.old).queue (S.state site.new).queue) }
 {
     site.reserve(2)?;
     let PollAnswer::Got { number, entry } = site.poll() else {
@@ -394,6 +406,10 @@ fn take_command<S: Site>(
         site.new) records.new)) }
     ensures goes { (S.state site.old).shared ≡ false → is_ended unit.old.line ≡ false →
         IfOk result (λ next. next ≢ Next.End → is_ended unit.new.line ≡ false) }
+    ensures stops { S.link_shared ≡ false → IfOk result (λ next. next ≢ Next.Entry →
+        HearsOut 256 (S.state site.old).shared unit.new (S.state site.new).queue) }
+    ensures coming { to_come (S.state site.new).queue ≡ to_come (S.state site.old).queue }
+    ensures brings { IfOk result (BringsOne unit.old unit.new) }
 {
     match arrival.entry.format() {
         SRP => {
@@ -462,6 +478,9 @@ fn receive<S: Site>(
         site.old) records.old)) (doing unit.new (S.state site.new) records.new)) }
     ensures goes { (S.state site.old).shared ≡ false → is_ended unit.old.line ≡ false →
         IfOk result (λ next. next ≢ Next.End → is_ended unit.new.line ≡ false) }
+    ensures stops { unit.old.waiting ≢ None → IfOk result (λ next. next ≢ Next.Entry →
+        HearsOut 256 (S.state site.old).shared unit.new (S.state site.new).queue) }
+    ensures brings { IfOk result (BringsOne unit.old unit.new) }
 {
     let session = site.session();
     if !unit.line.is_up() {
@@ -539,6 +558,8 @@ fn judge(
         arrival (doing unit.old before records.old)) (doing unit.new site records.new) }
     ensures stage { unit.old.service.stage ≡ Stage.Start → unit.new.service.stage ≡ Stage.Start }
     ensures goes { result ≢ Next.End → unit.new.line ≡ unit.old.line }
+    ensures over { result ≢ Next.Entry → unit.new.line.closing ≡ true }
+    ensures brings { BringsOne unit.old unit.new result }
 {
     bytes_spell_one();
     match judge_unit(&mut unit.logins, bytes) {

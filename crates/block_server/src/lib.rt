@@ -14,6 +14,7 @@ mod line;
 mod logins;
 mod ports;
 mod records;
+mod replies;
 mod request;
 mod server;
 mod service;

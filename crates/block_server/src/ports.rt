@@ -6,7 +6,7 @@ ghost use Rattle.vio_num.specs.declared.TheConstants.{PAGE_BYTES};
 ghost use Rattle.tce_window.specs.declared.answers.Right.TheVariants.{Read, Write};
 ghost use Rattle.tce_window.specs.PortState.{LaysNone, OnlyReads, OnlyWrites, Reads, Writes};
 ghost use Rattle.tce_window.specs.Region.{region_byte};
-ghost use Rattle.rdma_copy.specs.Copies.{OnlyCopies};
+ghost use Rattle.rdma_copy.specs.Copies.{MayHold, OnlyCopies};
 ghost use Rattle.block_server.specs.Bearing.{BearsIn, IsShownAs};
 ghost use Rattle.block_server.specs.Causes.{IsDenied};
 ghost use Rattle.block_server.specs.Copied.{FetchesNone, IsBusy, IsMade, IsRefusal, MakesOne, copies_in, own_name};
@@ -145,6 +145,8 @@ impl<C: CrqEnd, O: OwnerPort + GuestPort, R: GuestPort> Ports<'_, '_, '_, '_, C,
             (R.state self.old.client.now) (R.state self.new.client.now) at address len
             (own_name (O.state self.old.own.now) mark)
             self.old.copies.now.items self.new.copies.now.items) }
+        ensures may { OnOk result (R.is_shared ≡ false →
+            MayHold (R.state self.old.client.now) Write address len) }
         ensures none { OnErr result (self.new.copies.now.items ≡ self.old.copies.now.items) }
         ensures laid { LaysNone O.is_shared (O.state self.old.own.now) (O.state self.new.own.now) }
         ensures wrote { LaysIn (IsRange address len)

@@ -6,6 +6,7 @@ ghost use Rattle.block_server.specs.Advances.{KeepsFreed};
 ghost use Rattle.block_server.specs.Cargo.{AreIdle};
 ghost use Rattle.block_server.specs.Causes.{Told, anything};
 ghost use Rattle.block_server.specs.Heard.{Tells};
+ghost use Rattle.block_server.specs.HeardOut.{MayHear, UnitHearsOut};
 ghost use Rattle.block_server.specs.Judges.{AreUnused};
 ghost use Rattle.block_server.specs.Owed.{OweNone};
 ghost use Rattle.block_server.specs.Receipts.{AwaitNone};
@@ -160,6 +161,9 @@ impl<B: Blocks> Server<B> {
             crq.new) (R.state client.old) (R.state client.new) self.old.records.history.items
             self.new.records.history.items self.old.records.grants.items
             self.new.records.grants.items) }
+        ensures heard { (u : UnitValue) → slice_get self.old.units.items unit ≡ Some u →
+            MayHear u (C.state crq.old) C.is_shared → OnOk result (UnitHearsOut
+            self.new.units.items unit u R.is_shared (C.state crq.old) (C.state crq.new)) }
     {
         let id = UnitId {
             partition: self.partition,

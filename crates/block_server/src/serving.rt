@@ -31,6 +31,7 @@ ghost use Rattle.block_server.specs.RowsOn.{AddsFor, HasLastRow};
 ghost use Rattle.block_server.specs.Refusals.{ExplainsOn, ledger_of};
 ghost use Rattle.block_server.specs.Serving.{AnswersOnce, AnswersOnceIf, AnswersOnceOn, IsServing, desk_at, desk_of, held, terms_of};
 ghost use Rattle.block_server.specs.Heard.{TellsAll};
+ghost use Rattle.block_server.specs.HeardOut.{HearsNone, ServesOut};
 ghost use Rattle.block_server.specs.Stage.{how_far, is_answered, is_before_step, is_data_out, is_entry, is_given};
 ghost use Rattle.block_server.specs.Steps.{ComesOn, OtherStage};
 ghost use Rattle.block_server.specs.Waits.{IsHeldUp, IsPending, MeetsUse, StaysAgreed};
@@ -140,6 +141,9 @@ pub(crate) fn serve<S: Site, B: Blocks>(
         unit.old (S.state site.old) records.old) → is_ended unit.old.line ≡ false ⊎
         (unit.old.pending.items ≡ []) → OnOk result (DoesTurn (doing unit.old (S.state site.old)
         records.old) (doing unit.new (S.state site.new) records.new)) }
+    ensures hears { HearsNone unit.old unit.new (S.state site.old).queue (S.state site.new).queue }
+    ensures stops { (S.state site.old).shared ≡ false → OnOk result (ServesOut
+        unit.old unit.new (S.state site.old).queue (S.state site.new).queue) }
 {
     let Some(request) = unit.pending.front() else {
         return Ok(());

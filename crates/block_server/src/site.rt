@@ -11,6 +11,7 @@ ghost use Rattle.crq_session.specs.declared.answers.PollAnswer.TheVariants as po
 ghost use Rattle.crq_session.specs.Answers.{OnOpened, OnNotRegistered, IfHeldUp, OnFreed, OnNotFreed, IfInUse, IfSent, OnNotSent, OnReached, IfClosed, IfDropped, IfGot, IfEmpty, OnNotPolled, OnNothing, OnPut, IfKept};
 ghost use Rattle.crq_session.specs.Answered.{Opens, HoldsUp, TellsFreed, FindsInUse, Sends, TurnsBack, FindsFull, Takes, FindsNone, PutsNone, Pushes, StillKept, IsUnregistered};
 ghost use Rattle.crq_session.specs.EndState.{OnlyReserves, OnlyRegisters, OnlyFrees, OnlySends, OnlyTakes, OnlyPushes};
+ghost use Rattle.rdma_copy.specs.Copies.{MayHold};
 ghost use Rattle.block_server.specs.Advances.{Advances};
 ghost use Rattle.block_server.specs.Answering.{responses};
 ghost use Rattle.block_server.specs.Bearing.{BearsIn, IsShownAs};
@@ -210,6 +211,8 @@ pub(crate) trait Site {
         ensures passes { Passes (state self.old) (state self.new) }
         ensures delivered { OnOk result
             (DeliversOne (state self.old) (state self.new) 0 address mark bytes.now) }
+        ensures may { OnOk result ((state self.old).shared ≡ false →
+            MayHold (state self.old).client Write address (length bytes.now)) }
         ensures none { OnErr result ((state self.new).copies ≡ (state self.old).copies) }
         ensures data { pages_of (state self.new) ≡ pages_of (state self.old) }
         ensures wrote { LaysIn (IsRange address (length bytes.now))

@@ -15,6 +15,7 @@ ghost use Rattle.block_server.specs.Moves.{Passes};
 ghost use Rattle.block_server.specs.Owed.{KeepsAnswers, KeepsAnswersAll};
 ghost use Rattle.block_server.specs.Receipts.{TakesIn, is_ended, standing_of};
 ghost use Rattle.block_server.specs.Heard.{TellsAll};
+ghost use Rattle.block_server.specs.HeardOut.{HearsOut, MayHear, ServesOut};
 ghost use Rattle.block_server.specs.Ranges.{WritesOn, client_known};
 ghost use Rattle.block_server.specs.Ready.{Agrees, Idles, MeetsFull, MeetsSender};
 ghost use Rattle.block_server.specs.Refusals.{Explains, ExplainsOn, ledger_of};
@@ -25,11 +26,12 @@ ghost use Rattle.block_server.specs.Steps.{ComesOn, NoStage, OtherStage};
 ghost use Rattle.block_server.specs.Turns.{IfQuiet};
 ghost use Rattle.block_server.specs.Waits.{AsNext, IsIdle, PassesEvent, StandsOpen, StaysAgreed, StopsOpening};
 
-use crate::answering::{put_kept, put_reply};
+use crate::answering::put_kept;
 use crate::disk::Disk;
 use crate::intake::{Next, take_in};
 use crate::line::reply_of;
 use crate::records::Records;
+use crate::replies::put_reply;
 use crate::serving::serve;
 use crate::site::Site;
 use crate::unit::Unit;
@@ -121,6 +123,11 @@ pub(crate) fn turn<S: Site, B: Blocks>(
     ensures does { S.link_shared ≡ false → (S.state site.old).shared ≡ false → IsAtRest (doing
         unit.old (S.state site.old) records.old) → OnOk result (DoesTurn (doing unit.old (S.state
         site.old) records.old) (doing unit.new (S.state site.new) records.new)) }
+    ensures heard { MayHear unit.old (S.state site.old).queue S.link_shared → OnOk result
+        (HearsOut 255 (S.state site.old).shared unit.new (S.state site.new).queue) }
+    ensures serves { MayHear unit.old (S.state site.old).queue S.link_shared →
+        (S.state site.old).shared ≡ false → unit.old.waiting ≡ None → OnOk result (ServesOut
+        unit.old unit.new (S.state site.old).queue (S.state site.new).queue) }
 {
     if open_line(unit, site)? == Next::End {
         return Ok(());

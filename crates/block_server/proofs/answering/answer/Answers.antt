@@ -48,6 +48,9 @@ use Rattle.block_server.specs.Doings.{WritesAnswer, doing}
 use Rattle.block_server.proofs.Taking.{ended_stands}
 use Rattle.block_server.proofs.DoingAsides.{doing_same}
 use Rattle.block_server.proofs.DoingAnswers.{answered_none, answered_put, turn_from}
+use Rattle.std.proofs.Common.{inr}
+use Rattle.block_server.proofs.HeardOuts.{busy_same, come_reserved, goes_from, heard_behind, heard_equal, heard_reserved}
+use Rattle.block_server.proofs.ServedOuts.{copies_ends, copies_puts}
 use Rattle.block_server.proofs.answering.answer.Goals as goal
 
 pub returns-in_err-make_room-clause-once : goal.returns-in_err-make_room-clause-once
@@ -435,3 +438,32 @@ returns-in-Entry-clause-does g c = λ request rest outcome at parts link apart w
     (c.in_ok-copy_answer.ensures.does request rest outcome at parts (c.reserve.ensures.advances.shared ∙ apart))
     (λ (writes : WritesAnswer a m). c.put_answer.ensures.does request rest (writes.pends ∙ parts) link)
     (λ (writes : WritesAnswer a m). c.put_answer.ensures.free request rest (writes.pends ∙ parts) link (c.copy_answer.ensures.waiting waiting) (ended_stands _ _ stands ∙ going)))
+
+pub returns-in_err-make_room-clause-hears : goal.returns-in_err-make_room-clause-hears
+returns-in_err-make_room-clause-hears g c = heard_equal _ _ _ _ refl (inr (busy_same _ _ refl refl refl))
+
+pub returns-in_err-make_room-2-clause-hears : goal.returns-in_err-make_room-2-clause-hears
+returns-in_err-make_room-2-clause-hears g c = heard_equal _ _ _ _ refl (inr (busy_same _ _ refl refl refl))
+
+pub returns-in_err-reserve-clause-hears : goal.returns-in_err-reserve-clause-hears
+returns-in_err-reserve-clause-hears g c = heard_reserved _ _ _ (g.S.Site.state c.reserve.new.self).queue _ c.reserve.ensures.rest refl (inr (busy_same _ _ refl refl refl))
+
+pub returns-in_err-copy_answer-clause-hears : goal.returns-in_err-copy_answer-clause-hears
+returns-in_err-copy_answer-clause-hears g c = heard_reserved _ _ _ (g.S.Site.state c.reserve.new.self).queue _ c.reserve.ensures.rest c.copy_answer.ensures.queue (goes_from c.args.unit.now _ c.copy_answer.new.unit refl refl refl c.copy_answer.ensures.goes)
+
+pub returns-in_default-clause-hears : goal.returns-in_default-clause-hears
+returns-in_default-clause-hears g c = heard_reserved _ _ _ (g.S.Site.state c.reserve.new.self).queue _ c.reserve.ensures.rest c.copy_answer.ensures.queue (goes_from c.args.unit.now _ c.copy_answer.new.unit refl refl refl c.copy_answer.ensures.goes)
+
+pub returns-in-Entry-clause-hears : goal.returns-in-Entry-clause-hears
+returns-in-Entry-clause-hears g c =
+    heard_behind _ c.copy_answer.new.unit _ (g.S.Site.state c.args.site.now).queue (g.S.Site.state c.copy_answer.new.site).queue _ (come_reserved _ (g.S.Site.state c.reserve.new.self).queue _ c.reserve.ensures.rest c.copy_answer.ensures.queue)
+    (ap (λ (q : EndState). q.registered) c.copy_answer.ensures.queue ∙ c.reserve.ensures.rest.registered) (goes_from c.args.unit.now _ c.copy_answer.new.unit refl refl refl c.copy_answer.ensures.goes) c.put_answer.ensures.hears
+
+pub returns-in_default-clause-stops : goal.returns-in_default-clause-stops
+returns-in_default-clause-stops g c = λ request rest outcome at parts apart.
+    copies_ends c.args.unit.now c.copy_answer.new.unit outcome (λ o is. c.in_default.not-Entry o is) (c.in_ok-copy_answer.ensures.copies request rest outcome at parts (c.reserve.ensures.advances.shared ∙ apart))
+
+pub returns-in-Entry-clause-stops : goal.returns-in-Entry-clause-stops
+returns-in-Entry-clause-stops g c = λ request rest outcome at parts apart.
+    copies_puts c.args.unit.now c.copy_answer.new.unit c.put_answer.new.unit outcome c.in-Entry.outcome request rest c.in-Entry.is parts
+    (c.in_ok-copy_answer.ensures.copies request rest outcome at parts (c.reserve.ensures.advances.shared ∙ apart)) (c.put_answer.ensures.stops request rest)

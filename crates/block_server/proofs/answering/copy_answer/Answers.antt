@@ -1,7 +1,7 @@
 use Rattle.block_server.specs.declared.line.Line.{Line}
 use Rattle.block_server.specs.Books.{books_at}
 use Rattle.block_server.proofs.Jointly.{answer_going, judges_over, keeps_refused, works, works_none, works_on}
-use Rattle.std.proofs.Common.{inl, inr, refl}
+use Rattle.std.proofs.Common.{inl, inr, refl, []}
 use Rattle.block_server.proofs.Staging.{at_entry}
 use Rattle.block_server.proofs.Onces.{once_same, once_then}
 use Rattle.block_server.proofs.Taking.{lines_same, takes_ended, takes_none, takes_on}
@@ -33,6 +33,7 @@ use Rattle.block_server.proofs.Talking.{not_in_use}
 use Rattle.block_server.proofs.RangeLaws.{lays_none}
 use Rattle.block_server.proofs.Bearing.{bears_none}
 use Rattle.block_server.proofs.DoingAnswers.{refused_drops, writes_answer}
+use Rattle.block_server.proofs.HeardOuts.{busy_same}
 use Rattle.block_server.proofs.answering.copy_answer.Goals as goal
 
 pub returns-in_default-clause-once : goal.returns-in_default-clause-once
@@ -265,7 +266,7 @@ pub returns-in-Done-clause-does : goal.returns-in-Done-clause-does
 returns-in-Done-clause-does g c = λ request rest outcome at parts alone.
     inl (writes_answer c.args.unit.now c.deliver.new.unit (g.S.Site.state c.args.site.now) (g.S.Site.state c.deliver.new.site) c.args.records.now _ request rest alone parts c.in-Answer.is
     (c.in_ok-deliver.ensures.entry c.in-Done.is) c.deliver.ensures.id (λ i. (c.deliver.ensures.answer i).items) c.deliver.ensures.pending c.deliver.ensures.line c.deliver.ensures.logins
-    c.deliver.ensures.queue c.deliver.ensures.advances (c.in_ok-deliver.ensures.laid c.in-Done.is request rest parts) (c.deliver.ensures.bears request rest parts))
+    c.deliver.ensures.queue c.deliver.ensures.advances (c.in_ok-deliver.ensures.may c.in-Done.is alone request rest parts) (c.in_ok-deliver.ensures.laid c.in-Done.is request rest parts) (c.deliver.ensures.bears request rest parts))
 
 pub returns-in-Busy-clause-does : goal.returns-in-Busy-clause-does
 returns-in-Busy-clause-does g c = λ request rest outcome at parts alone.
@@ -276,3 +277,32 @@ returns-in-Refused-clause-does g c = λ request rest outcome at parts alone.
     inr (refused_drops c.args.unit.now c.deliver.new.unit c.end_session.new.unit (g.S.Site.state c.args.site.now) (g.S.Site.state c.deliver.new.site) c.args.records.now c.end_session.new.records
     _ _ Refused 0 0 c.in-Answer.is c.end_session.ensures.ends c.deliver.ensures.id c.deliver.ensures.logins (c.in_ok-deliver.ensures.stays c.in-Refused.is) c.end_session.ensures.row c.end_session.ensures.id
     c.end_session.ensures.stage c.end_session.ensures.closing (c.end_session.ensures.handshake ∙ ap (λ (l : Line). l.handshake) c.deliver.ensures.line) c.deliver.ensures.queue c.deliver.ensures.advances (c.in_ok-deliver.ensures.missed c.in-Refused.is alone))
+
+pub returns-in_default-clause-goes : goal.returns-in_default-clause-goes
+returns-in_default-clause-goes g c = inr (busy_same _ _ refl refl refl)
+
+pub returns-in_err-deliver-clause-goes : goal.returns-in_err-deliver-clause-goes
+returns-in_err-deliver-clause-goes g c = inr (busy_same _ _ (ap (λ (l : Line). l.closing) c.deliver.ensures.line) (waiting_stands _ _ c.deliver.ensures.stands) c.deliver.ensures.pending)
+
+pub returns-in-Done-clause-goes : goal.returns-in-Done-clause-goes
+returns-in-Done-clause-goes g c = inr (busy_same _ _ (ap (λ (l : Line). l.closing) c.deliver.ensures.line) (waiting_stands _ _ c.deliver.ensures.stands) c.deliver.ensures.pending)
+
+pub returns-in-Busy-clause-goes : goal.returns-in-Busy-clause-goes
+returns-in-Busy-clause-goes g c = inr (busy_same _ _ (ap (λ (l : Line). l.closing) c.deliver.ensures.line) (waiting_stands _ _ c.deliver.ensures.stands) c.deliver.ensures.pending)
+
+pub returns-in-Refused-clause-goes : goal.returns-in-Refused-clause-goes
+returns-in-Refused-clause-goes g c = inl c.end_session.ensures.closing
+
+pub returns-in_default-clause-copies : goal.returns-in_default-clause-copies
+returns-in_default-clause-copies g c = λ request rest outcome at parts alone. inl ((copied_before c.args.unit.now c.args.unit.now [] outcome refl (λ a is. c.in_default.not-Answer a is) at).stage, refl)
+
+pub returns-in-Done-clause-copies : goal.returns-in-Done-clause-copies
+returns-in-Done-clause-copies g c = λ request rest outcome at parts alone.
+    inl (c.in_ok-deliver.ensures.entry c.in-Done.is ∙ ap Entry (answer_is c.args.unit.now.service.stage _ outcome c.in-Answer.is at), c.deliver.ensures.pending)
+
+pub returns-in-Busy-clause-copies : goal.returns-in-Busy-clause-copies
+returns-in-Busy-clause-copies g c = λ request rest outcome at parts alone.
+    absurd (not_in_use (g.S.Site.state c.args.site.now) (g.S.Site.state c.deliver.new.site) alone (c.in_ok-deliver.ensures.busy c.in-Busy.is (is_pending _ rest request parts)))
+
+pub returns-in-Refused-clause-copies : goal.returns-in-Refused-clause-copies
+returns-in-Refused-clause-copies g c = λ request rest outcome at parts alone. inr (c.end_session.ensures.stage, c.end_session.ensures.closing)

@@ -37,6 +37,9 @@ use Rattle.block_server.specs.Ranges.{client_known}
 use Rattle.block_server.specs.declared.site.Halt.{Halt}
 use Rattle.std.proofs.Common.{Result, OnErr}
 use Rattle.std.specs.Prelude.{⊤}
+use Rattle.block_server.specs.declared.request.Request.{Request}
+use Rattle.rdma_copy.specs.Copies.{MayHold}
+use Rattle.tce_window.specs.declared.answers.Right.TheVariants.{Write}
 use Rattle.block_server.proofs.answering.deliver.Goals as goal
 
 pub returns-in_default-clause-once : goal.returns-in_default-clause-once
@@ -214,3 +217,10 @@ pub returns-in-Err-Refused-clause-missed : goal.returns-in-Err-Refused-clause-mi
 returns-in-Err-Refused-clause-missed g c = λ is alone.
     stays_after (g.S.Site.state c.args.site.now).client (g.S.Site.state c.args.site.now) (g.S.Site.state c.deliver_unit.new.self) (known_equal _ _ refl) alone c.deliver_unit.ensures.advances
     (subst (λ (r : Result ⊤ Halt). OnErr r (client_known (g.S.Site.state c.deliver_unit.new.self) ≡ client_known (g.S.Site.state c.args.site.now))) c.in-Err-Refused.is c.deliver_unit.ensures.missed)
+
+pub returns-in-Ok-clause-may : goal.returns-in-Ok-clause-may
+returns-in-Ok-clause-may g c = λ is alone request rest parts.
+    let front = front_is _ _ c.in-Some.ensures.item.3 in
+    let same : c.deref.result.now ≡ c.args.unit.now.service.answer.items = search (rules, c.deref.ensures) in
+    subst (λ (z : Request × List ℕ). MayHold (g.S.Site.state c.args.site.now).client Write z.0.address (length z.1))
+    (λ i. (first_same c.args.unit.now.pending.items c.in-Some.request.now request front.0 rest front.1 parts i, same i)) (c.in-Ok.ensures.may alone)

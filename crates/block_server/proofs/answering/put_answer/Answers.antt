@@ -48,6 +48,9 @@ use Rattle.block_server.proofs.Servicing.{closed_off}
 use Rattle.block_server.proofs.DoingReplies.{puts_reach, reach_on, reached_dropped, reached_sent, shut_reach}
 use Rattle.block_server.proofs.DoingAnswers.{does_keep, does_lose, does_put, keeps_entry, loses_entry, puts_entry, rests_free, rests_kept}
 use Rattle.block_server.proofs.Serves.{same_sent}
+use Rattle.block_server.proofs.HeardOuts.{busy_less, busy_more, busy_same, heard_sent, heard_served}
+use Rattle.block_server.proofs.ServedOuts.{serves_first}
+use Rattle.std.proofs.Common.{inr}
 use Rattle.block_server.proofs.answering.put_answer.Goals as goal
 
 pub returns-in_default-clause-once : goal.returns-in_default-clause-once
@@ -272,7 +275,7 @@ returns-in-Success-clause-does g c = λ request rest parts alone.
     alone c.requires.stage front.1 (c.answer_entry-entry.ensures.entry ∙ ap (λ n. srp_entry n c.in-Some.request.now.tag) (c.len.ensures ∙ c.args.unit.now.service.answer.ok.0))
     (reach_on _ _ on (c.in-Success.ensures.success.puts.partner alone)) (puts_reach _ _ (g.S.Site.state c.send.new.self).queue _ _ alone on c.send.ensures.rest c.in-Success.ensures.success)
     c.send.ensures.rest c.send.ensures.advances.own_place c.send.ensures.windows.client
-    c.settle.ensures.stands c.settle.ensures.handshake c.settle.ensures.stage (c.settle.ensures.kept ∙ c.requires.none) c.settle.ensures.pending c.settle.ensures.row c.settle.ensures.added)
+    c.settle.ensures.stands c.settle.ensures.handshake c.settle.ensures.stage (c.settle.ensures.kept ∙ c.requires.none) c.settle.ensures.pending c.settle.ensures.row c.settle.ensures.logins c.settle.ensures.added)
 
 pub returns-in-Dropped-clause-does : goal.returns-in-Dropped-clause-does
 returns-in-Dropped-clause-does g c = λ request rest parts alone.
@@ -308,3 +311,27 @@ returns-in-Dropped-clause-free g c = λ request rest parts alone waiting going.
 pub returns-in_default-send-clause-free : goal.returns-in_default-send-clause-free
 returns-in_default-send-clause-free g c = λ request rest parts alone waiting going.
     rests_free c.finish.new.unit (g.S.Site.state c.send.new.self) c.args.records.now (waiting_stands _ _ c.finish.ensures.stands ∙ waiting) c.finish.ensures.stage (c.finish.ensures.kept ∙ c.requires.none)
+
+pub returns-in_default-clause-hears : goal.returns-in_default-clause-hears
+returns-in_default-clause-hears g c = heard_served _ _ _ (busy_more _ _ (busy_same _ _ refl refl refl))
+
+pub returns-in-Success-clause-hears : goal.returns-in-Success-clause-hears
+returns-in-Success-clause-hears g c = heard_sent _ _ _ _ _ c.send.ensures.rest (busy_less _ _ (ap (λ (l : Line). l.closing) c.settle.ensures.line) (waiting_stands _ _ c.settle.ensures.stands) c.settle.ensures.pending)
+
+pub returns-in-Dropped-clause-hears : goal.returns-in-Dropped-clause-hears
+returns-in-Dropped-clause-hears g c = heard_sent _ _ _ _ _ c.send.ensures.rest (busy_more _ _ (busy_same _ _ refl refl refl))
+
+pub returns-in_default-send-clause-hears : goal.returns-in_default-send-clause-hears
+returns-in_default-send-clause-hears g c = heard_sent _ _ _ _ _ c.send.ensures.rest (busy_less _ _ (ap (λ (l : Line). l.closing) c.finish.ensures.line) (waiting_stands _ _ c.finish.ensures.stands) c.finish.ensures.pending)
+
+pub returns-in_default-clause-stops : goal.returns-in_default-clause-stops
+returns-in_default-clause-stops g c = λ request rest parts. absurd (no_front _ request rest parts (search rules))
+
+pub returns-in-Success-clause-stops : goal.returns-in-Success-clause-stops
+returns-in-Success-clause-stops g c = λ request rest parts. serves_first c.args.unit.now c.settle.new.unit request rest parts c.settle.ensures.pending
+
+pub returns-in-Dropped-clause-stops : goal.returns-in-Dropped-clause-stops
+returns-in-Dropped-clause-stops g c = λ request rest parts. inl (inr (λ none. cc (none)))
+
+pub returns-in_default-send-clause-stops : goal.returns-in_default-send-clause-stops
+returns-in_default-send-clause-stops g c = λ request rest parts. serves_first c.args.unit.now c.finish.new.unit request rest parts c.finish.ensures.pending

@@ -50,6 +50,8 @@ use Rattle.block_server.proofs.DoingAsides.{doing_same, doing_unsent, sends_kept
 use Rattle.block_server.proofs.DoingReplies.{PutsOrLoses, loses_reach, puts_reach, reach_on, reached_sent, shut_reach}
 use Rattle.block_server.proofs.DoingAnswers.{answer_kept, does_lose, does_put, does_reply, loses_entry, puts_entry, reply_kept, rests_free, turn_from, turn_none, turn_one}
 use Rattle.block_server.proofs.Serves.{same_sent}
+use Rattle.block_server.proofs.HeardOuts.{no_room}
+use Rattle.block_server.proofs.ServedOuts.{drops_less}
 use Rattle.block_server.proofs.answering.put_kept.Goals as goal
 
 pub returns-in_default-clause-once : goal.returns-in_default-clause-once
@@ -376,7 +378,7 @@ returns-in-Answer-clause-does g c = λ link rests.
     (reach_on _ _ (reached_sent c.send.result _ _ c.in-Success.is c.send.ensures.told) (c.in-Success.ensures.success.puts.partner link))
     (puts_reach _ _ (g.S.Site.state c.send.new.self).queue _ _ link (reached_sent c.send.result _ _ c.in-Success.is c.send.ensures.told) c.send.ensures.rest c.in-Success.ensures.success)
     c.send.ensures.rest c.send.ensures.advances.own_place c.send.ensures.windows.client
-    c.settle.ensures.stands c.settle.ensures.handshake c.settle.ensures.stage c.settle.ensures.kept c.settle.ensures.pending c.settle.ensures.row c.settle.ensures.added))
+    c.settle.ensures.stands c.settle.ensures.handshake c.settle.ensures.stage c.settle.ensures.kept c.settle.ensures.pending c.settle.ensures.row c.settle.ensures.logins c.settle.ensures.added))
     (rests_free c.settle.new.unit (g.S.Site.state c.send.new.self) c.settle.new.records (waiting_stands _ _ c.settle.ensures.stands ∙ is.waiting) c.settle.ensures.stage c.settle.ensures.kept))
 
 pub returns-in-Answer-kept-clause-does : goal.returns-in-Answer-kept-clause-does
@@ -390,3 +392,15 @@ returns-in-Answer-kept-clause-does g c = λ link rests.
     (same_sent _ _ _ _ c.in_default-send.not-Success c.in_default-send.not-Dropped c.send.ensures.closed c.send.ensures.refused) c.send.ensures.rest c.send.ensures.advances.own_place c.send.ensures.windows.client
     c.finish.ensures.stands c.finish.ensures.handshake c.finish.ensures.stage c.finish.ensures.kept c.finish.ensures.pending c.finish.ensures.logins))
     (rests_free c.finish.new.unit (g.S.Site.state c.send.new.self) c.make_room.new.self (waiting_stands _ _ c.finish.ensures.stands ∙ is.waiting) c.finish.ensures.stage c.finish.ensures.kept))
+
+pub returns-in-Dropped-clause-keeps : goal.returns-in-Dropped-clause-keeps
+returns-in-Dropped-clause-keeps g c = λ is none. cc (c.in-Some.is, none)
+
+pub returns-in-Dropped-clause-full : goal.returns-in-Dropped-clause-full
+returns-in-Dropped-clause-full g c = λ link is. no_room _ _ (g.S.Site.state c.send.new.self).queue c.in-Dropped.number c.in-Dropped.held link c.send.ensures.rest.place c.in-Dropped.ensures.dropped
+
+pub returns-in-Answer-clause-pending : goal.returns-in-Answer-clause-pending
+returns-in-Answer-clause-pending g c = drops_less _ _ c.settle.ensures.pending
+
+pub returns-in-Answer-kept-clause-pending : goal.returns-in-Answer-kept-clause-pending
+returns-in-Answer-kept-clause-pending g c = drops_less _ _ c.finish.ensures.pending

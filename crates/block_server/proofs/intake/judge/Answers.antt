@@ -27,7 +27,8 @@ use Rattle.block_server.specs.Doings.{doing}
 use Rattle.block_server.specs.Granting.{login_state}
 use Rattle.block_server.specs.Talk.{to_come}
 use Rattle.block_server.proofs.DoingEnds.{drops_heard, left_at_start, one_drops}
-use Rattle.block_server.proofs.DoingHears.{accepted_on, command_event, command_init, drops_under, one_passes, one_takes, passes_entry, srp_first, takes_request}
+use Rattle.block_server.proofs.DoingHears.{accepted_on, command_event, command_init, drops_under, ignored_asks, one_passes, one_takes, passes_entry, srp_first, takes_request}
+use Rattle.block_server.proofs.ServedOuts.{brings_end, brings_none, brings_request}
 use Rattle.block_server.proofs.intake.judge.Goals as goal
 
 pub returns-in-Ignored-clause-once : goal.returns-in-Ignored-clause-once
@@ -148,7 +149,8 @@ returns-in-Ignored-clause-does c = λ before site srp waits up going start long 
     (logins_stay c.args.unit.now.logins c.judge_unit.new.logins (decides_granted c.args.unit.now.logins c.judge_unit.new.logins _ c.judge_unit.result c.judge_unit.ensures.decides)
     (decides_current c.args.unit.now.logins c.judge_unit.new.logins _ c.judge_unit.result c.judge_unit.ensures.decides))
     waits refl refl refl refl refl (ap (λ (q : EndState). q.kept) queue) (ap (λ (q : EndState). q.registered && q.place.partner_registered) queue)
-    refl (ap to_come queue) (ap (λ (q : EndState). q.sent) queue) known refl refl (command_init c.args.arrival.entry (srp_first c.args.arrival.entry srp)) (command_event c.args.arrival.entry (srp_first c.args.arrival.entry srp)))
+    refl (ap to_come queue) (ap (λ (q : EndState). q.sent) queue) known refl refl (command_init c.args.arrival.entry (srp_first c.args.arrival.entry srp)) (command_event c.args.arrival.entry (srp_first c.args.arrival.entry srp))
+    (λ srp. ignored_asks c.args.arrival (doing c.args.unit.now before c.args.records.now) c.args.unit.now.logins c.judge_unit.new.logins _ c.judge_unit.result c.in-Ignored.is c.judge_unit.ensures.decides up going long read))
 
 pub returns-in-Ok-clause-does : goal.returns-in-Ok-clause-does
 returns-in-Ok-clause-does c = λ before site srp waits up going start long known queue named read.
@@ -166,3 +168,15 @@ returns-in-Fatal-clause-does c = λ before site srp waits up going start long kn
     (decides_current c.args.unit.now.logins c.judge_unit.new.logins _ c.judge_unit.result c.judge_unit.ensures.decides))
     (drops_heard c.args.arrival (record c.args.unit.now { logins = c.judge_unit.new.logins }) c.end_counted.new.unit before.own.place.unit site.own.place.unit before.queue site.queue before.client site.client c.args.records.now c.end_counted.new.records _ _ _ _
     start c.end_counted.ensures.ends named queue known c.end_counted.ensures.id c.end_counted.ensures.stage (left_at_start _ _ _ _ start c.end_counted.ensures.row) c.end_counted.ensures.closing c.end_counted.ensures.handshake))
+
+pub returns-in-Fatal-clause-over : goal.returns-in-Fatal-clause-over
+returns-in-Fatal-clause-over c = λ other. c.end_counted.ensures.closing
+
+pub returns-in-Ignored-clause-brings : goal.returns-in-Ignored-clause-brings
+returns-in-Ignored-clause-brings c = brings_none _ _ _ refl (λ is. absurd (cc (is)))
+
+pub returns-in-Ok-clause-brings : goal.returns-in-Ok-clause-brings
+returns-in-Ok-clause-brings c = brings_request _ _ _ _ c.in-Ok.ensures.items (λ is. cc (is))
+
+pub returns-in-Fatal-clause-brings : goal.returns-in-Fatal-clause-brings
+returns-in-Fatal-clause-brings c = brings_end _ _ _ c.end_counted.ensures.ends.pending c.end_counted.ensures.closing

@@ -42,6 +42,8 @@ use Rattle.block_server.proofs.DoingEnds.{drops_heard, keeps_none, left_at_start
 use Rattle.block_server.proofs.DoingHears.{drops_freely}
 use Rattle.block_server.proofs.Doings.{does_one}
 use Rattle.block_server.proofs.Reading.{known_same, reads_known}
+use Rattle.block_server.specs.HeardOut.HearsOut.{over, waits}
+use Rattle.block_server.proofs.ServedOuts.{brings_end, brings_none}
 use Rattle.block_server.proofs.intake.receive.Goals as goal
 
 pub returns-in-Ok-clause-once : goal.returns-in-Ok-clause-once
@@ -310,3 +312,35 @@ returns-in-Err-Busy-clause-does g c = λ link alone going srp free.
 
 pub returns-in-Ok-clause-goes : goal.returns-in-Ok-clause-goes
 returns-in-Ok-clause-goes g c = λ alone on more. ap is_ended (c.judge.ensures.goes more) ∙ on
+
+pub returns-then-not-is_up-clause-stops : goal.returns-then-not-is_up-clause-stops
+returns-then-not-is_up-clause-stops g c = λ some other. over c.end_session.ensures.closing
+
+pub returns-then-len-eq0-clause-stops : goal.returns-then-len-eq0-clause-stops
+returns-then-len-eq0-clause-stops g c = λ some other. over c.end_session-then-len-eq0.ensures.closing
+
+pub returns-in-Ok-clause-stops : goal.returns-in-Ok-clause-stops
+returns-in-Ok-clause-stops g c = λ some other. over (c.judge.ensures.over other)
+
+pub returns-in-Err-Refused-clause-stops : goal.returns-in-Err-Refused-clause-stops
+returns-in-Err-Refused-clause-stops g c = λ some other. over c.end_session-in-Err-Refused.ensures.closing
+
+pub returns-in-Err-Busy-clause-stops : goal.returns-in-Err-Busy-clause-stops
+returns-in-Err-Busy-clause-stops g c = λ some other.
+    let busy : IsErrOf c.fetch_unit.result Busy = cc (c.in-Err-Busy.is, c.in-Err-Busy.field-0-is) in
+    waits (c.fetch_unit.ensures.busy busy).shared_is some
+
+pub returns-then-not-is_up-clause-brings : goal.returns-then-not-is_up-clause-brings
+returns-then-not-is_up-clause-brings g c = brings_end _ _ _ c.end_session.ensures.ends.pending c.end_session.ensures.closing
+
+pub returns-then-len-eq0-clause-brings : goal.returns-then-len-eq0-clause-brings
+returns-then-len-eq0-clause-brings g c = brings_end _ _ _ c.end_session-then-len-eq0.ensures.ends.pending c.end_session-then-len-eq0.ensures.closing
+
+pub returns-in-Ok-clause-brings : goal.returns-in-Ok-clause-brings
+returns-in-Ok-clause-brings g c = record { most = c.judge.ensures.brings.most; ends = c.judge.ensures.brings.ends }
+
+pub returns-in-Err-Refused-clause-brings : goal.returns-in-Err-Refused-clause-brings
+returns-in-Err-Refused-clause-brings g c = brings_end _ _ _ c.end_session-in-Err-Refused.ensures.ends.pending c.end_session-in-Err-Refused.ensures.closing
+
+pub returns-in-Err-Busy-clause-brings : goal.returns-in-Err-Busy-clause-brings
+returns-in-Err-Busy-clause-brings g c = brings_none _ _ _ refl (λ is. absurd (cc (is)))

@@ -114,3 +114,9 @@ returns-clause-does g c = λ link alone going free. absurd (none_waits _ c.in-So
 
 pub returns-clause-goes : goal.returns-clause-goes
 returns-clause-goes g c = λ alone on. c.receive.ensures.goes alone (ended_stands _ _ c.make_room.ensures.stands ∙ on)
+
+pub returns-in_default-clause-stops : goal.returns-in_default-clause-stops
+returns-in_default-clause-stops g c = λ other. absurd (other refl)
+
+pub returns-clause-stops : goal.returns-clause-stops
+returns-clause-stops g c = c.receive.ensures.stops (λ none. absurd (none_waits _ c.in-Some.arrival (search rules) (sym (waiting_stands _ _ c.make_room.ensures.stands) ∙ none)))

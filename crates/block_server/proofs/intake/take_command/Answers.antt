@@ -18,9 +18,15 @@ use Rattle.block_server.specs.declared.service.Service.{Service}
 use Rattle.std.proofs.Common.{◌∙◌}
 use Rattle.block_server.specs.Doings.{doing}
 use Rattle.block_server.specs.Entries.{datagram_answer}
-use Rattle.block_server.proofs.DoingHears.{command_event, command_init, datagram_sends, hearing_free, low_address, one_datagram, one_freely, passes_freely, passes_same, reply_free}
+use Rattle.block_server.proofs.DoingHears.{command_event, command_init, datagram_sends, format_srp, hearing_free, low_address, one_datagram, one_freely, passes_freely, passes_same, reply_free}
 use Rattle.block_server.proofs.DoingReplies.{plain_none}
 use Rattle.block_server.proofs.Taking.{ended_stands}
+use Rattle.block_server.specs.HeardOut.HearsOut.{keeps}
+use Rattle.block_server.specs.Talk.{to_come}
+use Rattle.block_server.proofs.DoingReplies.{come_same}
+use Rattle.block_server.proofs.Taking.{passed_session, passed_taken}
+use Rattle.std.proofs.Common.{inr}
+use Rattle.block_server.proofs.ServedOuts.{brings_from, brings_none}
 use Rattle.block_server.proofs.intake.take_command.Goals as goal
 
 pub returns-in-2-clause-once : goal.returns-in-2-clause-once
@@ -144,10 +150,34 @@ returns-in-2-clause-does g c = λ link alone going first waits free.
 
 pub returns-in_default-clause-does : goal.returns-in_default-clause-does
 returns-in_default-clause-does g c = λ link alone going first waits free.
-    passes_freely _ _ (passes_same c.args.arrival (doing c.args.unit.now (g.S.Site.state c.args.site.now) c.args.records.now) waits (command_init c.args.arrival.entry first) (command_event c.args.arrival.entry first)) (hearing_free c.args.arrival (doing c.args.unit.now (g.S.Site.state c.args.site.now) c.args.records.now) waits free)
+    passes_freely _ _ (passes_same c.args.arrival (doing c.args.unit.now (g.S.Site.state c.args.site.now) c.args.records.now) waits (command_init c.args.arrival.entry first) (command_event c.args.arrival.entry first) (format_srp c.args.arrival.entry (λ is. search rules))) (hearing_free c.args.arrival (doing c.args.unit.now (g.S.Site.state c.args.site.now) c.args.records.now) waits free)
 
 pub returns-in-1-clause-goes : goal.returns-in-1-clause-goes
 returns-in-1-clause-goes g c = λ alone on. c.receive.ensures.goes alone on
 
 pub returns-in-2-clause-goes : goal.returns-in-2-clause-goes
 returns-in-2-clause-goes g c = λ alone on more. ended_stands _ _ c.put_reply.ensures.stands ∙ on
+
+pub returns-in-1-clause-stops : goal.returns-in-1-clause-stops
+returns-in-1-clause-stops g c = λ link. c.receive.ensures.stops (λ none. cc (none))
+
+pub returns-in-2-clause-stops : goal.returns-in-2-clause-stops
+returns-in-2-clause-stops g c = λ link other. keeps (λ none. cc (c.put_reply.ensures.kept other, none)) (c.put_reply.ensures.full link other)
+
+pub returns-in_default-clause-stops : goal.returns-in_default-clause-stops
+returns-in_default-clause-stops g c = λ link other. absurd (other refl)
+
+pub returns-in-1-clause-coming : goal.returns-in-1-clause-coming
+returns-in-1-clause-coming g c = ap to_come c.receive.ensures.queue
+
+pub returns-in-2-clause-coming : goal.returns-in-2-clause-coming
+returns-in-2-clause-coming g c = come_same (g.S.Site.state c.args.site.now).queue (g.S.Site.state c.put_reply.new.site).queue c.put_reply.ensures.advances.queue_place (passed_session _ _ c.put_reply.ensures.passes) (passed_taken _ _ c.put_reply.ensures.passes)
+
+pub returns-in-1-clause-brings : goal.returns-in-1-clause-brings
+returns-in-1-clause-brings g c = brings_from _ (record c.args.unit.now { waiting = Some c.args.arrival }) c.receive.new.unit c.receive.result refl c.receive.ensures.brings
+
+pub returns-in-2-clause-brings : goal.returns-in-2-clause-brings
+returns-in-2-clause-brings g c = brings_none _ _ _ c.put_reply.ensures.pending (λ is. inr (λ none. cc (c.put_reply.ensures.kept (λ entry. cc (is, entry)), none)))
+
+pub returns-in_default-clause-brings : goal.returns-in_default-clause-brings
+returns-in_default-clause-brings g c = brings_none _ _ _ refl (λ is. absurd (cc (is)))

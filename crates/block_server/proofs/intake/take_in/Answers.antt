@@ -30,6 +30,13 @@ use Rattle.block_server.specs.Talk.{reach_of}
 use Rattle.block_server.proofs.LastRows.{idle_same, idle_then}
 use Rattle.block_server.proofs.DoingHears.{freely_next}
 use Rattle.block_server.proofs.Taking.{ended_stands}
+use Rattle.block_server.specs.HeardOut.HearsOut.{full}
+use Rattle.block_server.proofs.HeardOuts.{out_same, stopped_next, stops_slots, taken_next}
+use Rattle.std.proofs.Common.{arith, length, ℕ, ◌≤◌}
+use Rattle.block_server.specs.Talk.{to_come}
+use Rattle.block_server.specs.HeardOut.{to_serve}
+use Rattle.block_server.specs.declared.unit.Unit.{Unit}
+use Rattle.block_server.proofs.ServedOuts.{few_end, few_then, other_entry}
 use Rattle.block_server.proofs.intake.take_in.Goals as goal
 
 pub returns-in_err-next-clause-once : goal.returns-in_err-next-clause-once
@@ -62,6 +69,8 @@ loop-taken-init g c = record {
   may = λ on. c.in_ok-next.ensures.goes_on on (search rules);
   idle = c.receive_waiting.ensures.rows;
   does = λ link alone free. c.in_ok-next.ensures.does link alone free;
+  brings = λ link waiting. omega (arith, ap (λ (z : Unit × SiteState). to_serve z.0 z.1.queue) (λ i. ((c.in_ok-next.ensures.rests waiting).1 i, (c.in_ok-next.ensures.rests waiting).2 i)));
+  left = λ link. omega (arith, ap (λ (q : EndState). length (to_come q)) c.receive_waiting.ensures.queue);
 }
 
 pub returns-in_err-make_room-clause-once : goal.returns-in_err-make_room-clause-once
@@ -126,6 +135,8 @@ loop-taken-preserved g c = record {
   idle = idle_then _ _ _ _ _ _ (idle_then _ _ _ _ _ _ c.loop-taken.invariant.idle (idle_same _ _ _ _ (ap (λ (d : Desk). d.stage) c.make_room.ensures.desk) c.make_room.ensures.history)) c.take_one.ensures.rows;
   does = λ link alone going free. freely_next _ _ _ _ (c.make_room.ensures.doing (g.S.Site.state c.loop-taken.site)) (c.loop-taken.invariant.does link alone going free)
       (λ on. c.in_ok-next-2.ensures.does link (c.loop-taken.invariant.advances.shared ∙ alone) (ended_stands _ _ c.make_room.ensures.stands ∙ (c.loop-taken.invariant.may going).goes_on) on);
+  brings = λ link waiting. (few_then c.args.unit.now c.loop-taken.unit c.make_room.new.unit c.take_one.new.unit (g.S.Site.state c.args.site.now).queue (g.S.Site.state c.loop-taken.site).queue (g.S.Site.state c.take_one.new.site).queue c.in_ok-next-2.next (c.loop-taken.invariant.brings link waiting) (ap (λ (d : Desk). d.pending) c.make_room.ensures.desk) (c.in_ok-next-2.ensures.brings link)).most;
+  left = λ link. omega (arith, c.loop-taken.invariant.left link, taken_next (g.S.Site.state c.loop-taken.site).shared c.take_one.new.unit (g.S.Site.state c.loop-taken.site).queue (g.S.Site.state c.take_one.new.site).queue c.in_ok-next-2.next (search rules) (c.in_ok-next-2.ensures.stops link));
 }
 
 pub returns-after-loop-taken-clause-once : goal.returns-after-loop-taken-clause-once
@@ -337,3 +348,33 @@ returns-after-loop-taken-clause-goes g c = λ link alone on more. (c.loop-taken.
 
 pub returns-else-len-lt-MOST_PENDING-clause-goes : goal.returns-else-len-lt-MOST_PENDING-clause-goes
 returns-else-len-lt-MOST_PENDING-clause-goes g c = λ link alone on more. (c.loop-taken.invariant.may on).goes_on
+
+pub returns-then-ne-clause-heard : goal.returns-then-ne-clause-heard
+returns-then-ne-clause-heard g c = λ link few. c.in_ok-next.ensures.stops (search rules)
+
+pub returns-then-ne-2-clause-heard : goal.returns-then-ne-2-clause-heard
+returns-then-ne-2-clause-heard g c = λ link few.
+    out_same 256 (g.S.Site.state c.args.site.now).shared (g.S.Site.state c.loop-taken.site).shared c.take_one.new.unit (g.S.Site.state c.take_one.new.site).queue c.loop-taken.invariant.advances.shared
+    (stopped_next (g.S.Site.state c.loop-taken.site).shared c.take_one.new.unit (g.S.Site.state c.loop-taken.site).queue (g.S.Site.state c.take_one.new.site).queue c.in_ok-next-2.next (search rules) (c.in_ok-next-2.ensures.stops link))
+
+pub returns-after-loop-taken-clause-heard : goal.returns-after-loop-taken-clause-heard
+returns-after-loop-taken-clause-heard g c = λ link few.
+    stops_slots _ c.loop-taken.unit (g.S.Site.state c.args.site.now).queue (g.S.Site.state c.loop-taken.site).queue c.loop-taken.taken c.slots-slots.result (c.loop-taken.invariant.left link)
+    (subst (λ (n : ℕ). length (to_come (g.S.Site.state c.args.site.now).queue) ≤ n) (sym (c.slots-slots.ensures.slots ∙ ap (λ (q : EndState). q.place.own_slots) c.receive_waiting.ensures.queue)) few) (search rules)
+
+pub returns-else-len-lt-MOST_PENDING-clause-heard : goal.returns-else-len-lt-MOST_PENDING-clause-heard
+returns-else-len-lt-MOST_PENDING-clause-heard g c = λ link few. full (search rules)
+
+pub returns-then-ne-clause-brings : goal.returns-then-ne-clause-brings
+returns-then-ne-clause-brings g c = λ link waiting. absurd (other_entry c.in_ok-next.next (search rules) (c.in_ok-next.ensures.rests waiting).0)
+
+pub returns-then-ne-2-clause-brings : goal.returns-then-ne-2-clause-brings
+returns-then-ne-2-clause-brings g c = λ link waiting.
+    few_then c.args.unit.now c.loop-taken.unit c.make_room.new.unit c.take_one.new.unit (g.S.Site.state c.args.site.now).queue (g.S.Site.state c.loop-taken.site).queue (g.S.Site.state c.take_one.new.site).queue c.in_ok-next-2.next
+    (c.loop-taken.invariant.brings link waiting) (ap (λ (d : Desk). d.pending) c.make_room.ensures.desk) (c.in_ok-next-2.ensures.brings link)
+
+pub returns-after-loop-taken-clause-brings : goal.returns-after-loop-taken-clause-brings
+returns-after-loop-taken-clause-brings g c = λ link waiting. few_end c.args.unit.now c.loop-taken.unit (g.S.Site.state c.args.site.now).queue (g.S.Site.state c.loop-taken.site).queue _ (c.loop-taken.invariant.brings link waiting) (λ is. cc (is))
+
+pub returns-else-len-lt-MOST_PENDING-clause-brings : goal.returns-else-len-lt-MOST_PENDING-clause-brings
+returns-else-len-lt-MOST_PENDING-clause-brings g c = λ link waiting. few_end c.args.unit.now c.loop-taken.unit (g.S.Site.state c.args.site.now).queue (g.S.Site.state c.loop-taken.site).queue _ (c.loop-taken.invariant.brings link waiting) (λ is. cc (is))

@@ -1,10 +1,11 @@
-use Rattle.std.proofs.Common.{◌≡◌, ◌-◌, List, None, false}
-use Rattle.block_server.specs.Talk.{IsListening, Word, reach_of}
+use Rattle.std.proofs.Common.{◌≡◌, ◌+◌, ◌≤◌, ◌-◌, List, None, false, length}
+use Rattle.block_server.specs.Talk.{IsListening, Word, reach_of, to_come}
 use Rattle.block_server.proofs.Listening.{HearsSome}
 use Rattle.block_server.specs.Advances.{Advances}
 use Rattle.block_server.specs.Books.{books_at}
 use Rattle.block_server.specs.Cargo.{KeepsCargo, cargo_of}
 use Rattle.block_server.specs.Doings.{DoesFreely, IsFree, doing}
+use Rattle.block_server.specs.HeardOut.{to_serve}
 use Rattle.block_server.specs.Judges.{Judges}
 use Rattle.block_server.specs.Owed.{KeepsAnswers}
 use Rattle.block_server.specs.Receipts.{MayTake, TakesIn, is_ended, standing_of}
@@ -41,6 +42,8 @@ invariant-loop-taken g l = record {
   idle : KeepsIdleRows l.fn.unit.service.stage l.unit.service.stage l.fn.records.history.items l.records.history.items;
   does : g.S.Site.link_shared ≡ false → (g.S.Site.state l.fn.site).shared ≡ false → is_ended l.fn.unit.line ≡ false → IsFree (doing l.fn.unit (g.S.Site.state l.fn.site) l.fn.records)
       → DoesFreely (doing l.fn.unit (g.S.Site.state l.fn.site) l.fn.records) (doing l.unit (g.S.Site.state l.site) l.records);
+  brings : g.S.Site.link_shared ≡ false → l.fn.unit.waiting ≡ None → to_serve l.unit (g.S.Site.state l.site).queue ≤ to_serve l.fn.unit (g.S.Site.state l.fn.site).queue;
+  left : g.S.Site.link_shared ≡ false → l.taken + length (to_come (g.S.Site.state l.site).queue) ≡ length (to_come (g.S.Site.state l.fn.site).queue);
 }
 
 abbrev pub decreases-loop-taken : goal.decreases-loop-taken

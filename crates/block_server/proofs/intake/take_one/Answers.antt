@@ -44,8 +44,16 @@ use Rattle.block_server.specs.Receipts.{is_down, is_ended}
 use Rattle.block_server.specs.Doings.{DoesFreely, Doing, IsFree, doing}
 use Rattle.block_server.proofs.DoingEnds.{drops_lost, left_at_start}
 use Rattle.crq_session.specs.Handshake.{step_entry}
-use Rattle.block_server.proofs.DoingHears.{came_doing, drops_freely, ended_same, freely_none, hears_freely, init_none, init_sends, one_freely, one_init, passes_freely, passes_same, reply_free, still_doing}
+use Rattle.block_server.proofs.DoingHears.{came_doing, drops_freely, ended_same, freely_none, hears_freely, init_none, init_sends, one_freely, one_init, other_srp, passes_freely, passes_same, reply_free, still_doing}
 use Rattle.block_server.proofs.DoingReplies.{plain_none}
+use Rattle.block_server.specs.HeardOut.HearsOut.{keeps}
+use Rattle.block_server.proofs.HeardOuts.{heard_ok, less_came, less_then, next_or, ok_next_or, stops_empty}
+use Rattle.block_server.proofs.DoingReplies.{come_same}
+use Rattle.block_server.proofs.Taking.{passed_session, passed_taken}
+use Rattle.std.proofs.Common.{inr}
+use Rattle.block_server.proofs.ServedOuts.{brings_from, brings_none, few_none, few_ok, few_one}
+use Rattle.std.proofs.Common.{arith, length}
+use Rattle.block_server.specs.declared.request.Request.{Request}
 use Rattle.block_server.proofs.intake.take_one.Goals as goal
 
 pub returns-in_err-reserve-clause-once : goal.returns-in_err-reserve-clause-once
@@ -644,13 +652,13 @@ pub returns-in-Unused-clause-does : goal.returns-in-Unused-clause-does
 returns-in-Unused-clause-does g c = λ link alone going free.
     hears_freely _ _ _ (came_doing c.args.unit.now (g.S.Site.state c.args.site.now) (g.S.Site.state c.poll.new.self) c.args.records.now (record { number = c.in-Got.number; entry = c.in-Got.entry }) free.waiting (came _ _ (g.S.Site.state c.reserve.new.self).queue _ c.in-Got.number c.in-Got.entry link c.reserve.ensures.rest c.poll.ensures.rest c.in-Got.ensures.got)
     (c.poll.ensures.rest.kept ∙ c.reserve.ensures.rest.kept) (c.poll.ensures.windows.client ∙ c.reserve.ensures.windows.client) (c.poll.ensures.windows.own ∙ c.reserve.ensures.windows.own))
-    (λ on. passes_freely _ _ (passes_same (record { number = c.in-Got.number; entry = c.in-Got.entry }) (doing c.args.unit.now (g.S.Site.state c.poll.new.self) c.args.records.now) free.waiting (λ is. search rules) (λ is. search rules)) (record { waiting = free.waiting; stage = free.stage; kept = free.kept })) free
+    (λ on. passes_freely _ _ (passes_same (record { number = c.in-Got.number; entry = c.in-Got.entry }) (doing c.args.unit.now (g.S.Site.state c.poll.new.self) c.args.records.now) free.waiting (λ is. search rules) (λ is. search rules) (other_srp c.in-Got.entry (λ is. search rules))) (record { waiting = free.waiting; stage = free.stage; kept = free.kept })) free
 
 pub returns-in-Reserved-clause-does : goal.returns-in-Reserved-clause-does
 returns-in-Reserved-clause-does g c = λ link alone going free.
     hears_freely _ _ _ (came_doing c.args.unit.now (g.S.Site.state c.args.site.now) (g.S.Site.state c.poll.new.self) c.args.records.now (record { number = c.in-Got.number; entry = c.in-Got.entry }) free.waiting (came _ _ (g.S.Site.state c.reserve.new.self).queue _ c.in-Got.number c.in-Got.entry link c.reserve.ensures.rest c.poll.ensures.rest c.in-Got.ensures.got)
     (c.poll.ensures.rest.kept ∙ c.reserve.ensures.rest.kept) (c.poll.ensures.windows.client ∙ c.reserve.ensures.windows.client) (c.poll.ensures.windows.own ∙ c.reserve.ensures.windows.own))
-    (λ on. passes_freely _ _ (passes_same (record { number = c.in-Got.number; entry = c.in-Got.entry }) (doing c.args.unit.now (g.S.Site.state c.poll.new.self) c.args.records.now) free.waiting (λ is. search rules) (λ is. search rules)) (record { waiting = free.waiting; stage = free.stage; kept = free.kept })) free
+    (λ on. passes_freely _ _ (passes_same (record { number = c.in-Got.number; entry = c.in-Got.entry }) (doing c.args.unit.now (g.S.Site.state c.poll.new.self) c.args.records.now) free.waiting (λ is. search rules) (λ is. search rules) (other_srp c.in-Got.entry (λ is. search rules))) (record { waiting = free.waiting; stage = free.stage; kept = free.kept })) free
 
 pub returns-in-Command-clause-goes : goal.returns-in-Command-clause-goes
 returns-in-Command-clause-goes g c = λ alone on. c.take_command.ensures.goes (c.poll.ensures.advances.shared ∙ c.reserve.ensures.advances.shared ∙ alone) on
@@ -664,3 +672,78 @@ returns-in-None-clause-goes g c = λ alone on more. got_ended _ _ _ c.in-Got.ent
 pub returns-in-Event-clause-goes : goal.returns-in-Event-clause-goes
 returns-in-Event-clause-goes g c = λ alone on more.
     ended_same _ _ _ _ c.lose_partner.ensures.closing c.lose_partner.ensures.handshake ∙ got_ended _ _ _ c.in-Got.entry c.got-step-in-Event.ensures.state ∙ on
+
+pub returns-in_default-clause-stops : goal.returns-in_default-clause-stops
+returns-in_default-clause-stops g c = λ link.
+    stops_empty _ (g.S.Site.state c.args.site.now).shared _ (g.S.Site.state c.args.site.now).queue (g.S.Site.state c.reserve.new.self).queue (g.S.Site.state c.poll.new.self).queue c.poll.result link c.reserve.ensures.rest c.poll.ensures.rest
+    (λ number entry is. c.in_default.not-Got number entry is) c.poll.ensures.unregistered.0 c.poll.ensures.empty
+
+pub returns-in-Command-clause-stops : goal.returns-in-Command-clause-stops
+returns-in-Command-clause-stops g c = λ link.
+    ok_next_or (g.S.Site.state c.args.site.now).shared c.take_command.new.unit (g.S.Site.state c.args.site.now).queue (g.S.Site.state c.take_command.new.site).queue c.take_command.result
+    (less_then (g.S.Site.state c.args.site.now).queue (g.S.Site.state c.poll.new.self).queue (g.S.Site.state c.take_command.new.site).queue c.take_command.ensures.coming
+    (less_came (g.S.Site.state c.args.site.now).queue (g.S.Site.state c.poll.new.self).queue c.in-Got.number c.in-Got.entry (came _ (g.S.Site.state c.args.site.now).queue (g.S.Site.state c.reserve.new.self).queue (g.S.Site.state c.poll.new.self).queue c.in-Got.number c.in-Got.entry link c.reserve.ensures.rest c.poll.ensures.rest c.in-Got.ensures.got)))
+    (heard_ok (g.S.Site.state c.args.site.now).shared (g.S.Site.state c.poll.new.self).shared c.take_command.new.unit (g.S.Site.state c.take_command.new.site).queue c.take_command.result (c.poll.ensures.advances.shared ∙ c.reserve.ensures.advances.shared) (c.take_command.ensures.stops link))
+
+pub returns-in-Some-clause-stops : goal.returns-in-Some-clause-stops
+returns-in-Some-clause-stops g c = λ link.
+    next_or (g.S.Site.state c.args.site.now).shared c.put_reply.new.unit (g.S.Site.state c.args.site.now).queue (g.S.Site.state c.put_reply.new.site).queue c.put_reply.result
+    (less_then (g.S.Site.state c.args.site.now).queue (g.S.Site.state c.poll.new.self).queue (g.S.Site.state c.put_reply.new.site).queue (come_same (g.S.Site.state c.poll.new.self).queue (g.S.Site.state c.put_reply.new.site).queue c.put_reply.ensures.advances.queue_place (passed_session _ _ c.put_reply.ensures.passes) (passed_taken _ _ c.put_reply.ensures.passes))
+    (less_came (g.S.Site.state c.args.site.now).queue (g.S.Site.state c.poll.new.self).queue c.in-Got.number c.in-Got.entry (came _ (g.S.Site.state c.args.site.now).queue (g.S.Site.state c.reserve.new.self).queue (g.S.Site.state c.poll.new.self).queue c.in-Got.number c.in-Got.entry link c.reserve.ensures.rest c.poll.ensures.rest c.in-Got.ensures.got)))
+    (λ other. keeps (λ none. cc (c.put_reply.ensures.kept other, none)) (c.put_reply.ensures.full link other))
+
+pub returns-in-None-clause-stops : goal.returns-in-None-clause-stops
+returns-in-None-clause-stops g c = λ link.
+    less_came (g.S.Site.state c.args.site.now).queue (g.S.Site.state c.poll.new.self).queue c.in-Got.number c.in-Got.entry (came _ (g.S.Site.state c.args.site.now).queue (g.S.Site.state c.reserve.new.self).queue (g.S.Site.state c.poll.new.self).queue c.in-Got.number c.in-Got.entry link c.reserve.ensures.rest c.poll.ensures.rest c.in-Got.ensures.got)
+
+pub returns-in-Event-clause-stops : goal.returns-in-Event-clause-stops
+returns-in-Event-clause-stops g c = λ link.
+    less_came (g.S.Site.state c.args.site.now).queue (g.S.Site.state c.poll.new.self).queue c.in-Got.number c.in-Got.entry (came _ (g.S.Site.state c.args.site.now).queue (g.S.Site.state c.reserve.new.self).queue (g.S.Site.state c.poll.new.self).queue c.in-Got.number c.in-Got.entry link c.reserve.ensures.rest c.poll.ensures.rest c.in-Got.ensures.got)
+
+pub returns-in-Unused-clause-stops : goal.returns-in-Unused-clause-stops
+returns-in-Unused-clause-stops g c = λ link.
+    less_came (g.S.Site.state c.args.site.now).queue (g.S.Site.state c.poll.new.self).queue c.in-Got.number c.in-Got.entry (came _ (g.S.Site.state c.args.site.now).queue (g.S.Site.state c.reserve.new.self).queue (g.S.Site.state c.poll.new.self).queue c.in-Got.number c.in-Got.entry link c.reserve.ensures.rest c.poll.ensures.rest c.in-Got.ensures.got)
+
+pub returns-in-Reserved-clause-stops : goal.returns-in-Reserved-clause-stops
+returns-in-Reserved-clause-stops g c = λ link.
+    less_came (g.S.Site.state c.args.site.now).queue (g.S.Site.state c.poll.new.self).queue c.in-Got.number c.in-Got.entry (came _ (g.S.Site.state c.args.site.now).queue (g.S.Site.state c.reserve.new.self).queue (g.S.Site.state c.poll.new.self).queue c.in-Got.number c.in-Got.entry link c.reserve.ensures.rest c.poll.ensures.rest c.in-Got.ensures.got)
+
+pub returns-in_default-clause-brings : goal.returns-in_default-clause-brings
+returns-in_default-clause-brings g c = λ link.
+    few_none _ (g.S.Site.state c.args.site.now).queue (g.S.Site.state c.poll.new.self).queue _
+    (come_same (g.S.Site.state c.args.site.now).queue (g.S.Site.state c.poll.new.self).queue (c.poll.ensures.rest.place ∙ c.reserve.ensures.rest.place) (c.poll.ensures.rest.last_session ∙ c.reserve.ensures.rest.last_session)
+    (poll_taken _ _ _ c.poll.result (λ number entry is. c.in_default.not-Got number entry is) c.poll.ensures.empty c.poll.ensures.refused ∙ c.reserve.ensures.rest.taken)) (λ is. cc (is))
+
+pub returns-in-Command-clause-brings : goal.returns-in-Command-clause-brings
+returns-in-Command-clause-brings g c = λ link.
+    few_ok c.args.unit.now c.take_command.new.unit (g.S.Site.state c.args.site.now).queue (g.S.Site.state c.take_command.new.site).queue c.take_command.result
+    (less_then (g.S.Site.state c.args.site.now).queue (g.S.Site.state c.poll.new.self).queue (g.S.Site.state c.take_command.new.site).queue c.take_command.ensures.coming
+    (less_came (g.S.Site.state c.args.site.now).queue (g.S.Site.state c.poll.new.self).queue c.in-Got.number c.in-Got.entry (came _ (g.S.Site.state c.args.site.now).queue (g.S.Site.state c.reserve.new.self).queue (g.S.Site.state c.poll.new.self).queue c.in-Got.number c.in-Got.entry link c.reserve.ensures.rest c.poll.ensures.rest c.in-Got.ensures.got)))
+    (brings_from _ (record c.args.unit.now { moved = true }) c.take_command.new.unit c.take_command.result refl c.take_command.ensures.brings)
+
+pub returns-in-Some-clause-brings : goal.returns-in-Some-clause-brings
+returns-in-Some-clause-brings g c = λ link.
+    few_one c.args.unit.now c.put_reply.new.unit (g.S.Site.state c.args.site.now).queue (g.S.Site.state c.put_reply.new.site).queue c.put_reply.result
+    (less_then (g.S.Site.state c.args.site.now).queue (g.S.Site.state c.poll.new.self).queue (g.S.Site.state c.put_reply.new.site).queue (come_same (g.S.Site.state c.poll.new.self).queue (g.S.Site.state c.put_reply.new.site).queue c.put_reply.ensures.advances.queue_place (passed_session _ _ c.put_reply.ensures.passes) (passed_taken _ _ c.put_reply.ensures.passes))
+    (less_came (g.S.Site.state c.args.site.now).queue (g.S.Site.state c.poll.new.self).queue c.in-Got.number c.in-Got.entry (came _ (g.S.Site.state c.args.site.now).queue (g.S.Site.state c.reserve.new.self).queue (g.S.Site.state c.poll.new.self).queue c.in-Got.number c.in-Got.entry link c.reserve.ensures.rest c.poll.ensures.rest c.in-Got.ensures.got)))
+    (brings_none _ _ _ c.put_reply.ensures.pending (λ is. inr (λ none. cc (c.put_reply.ensures.kept (λ entry. cc (is, entry)), none))))
+
+pub returns-in-Event-clause-brings : goal.returns-in-Event-clause-brings
+returns-in-Event-clause-brings g c = λ link.
+    few_one c.args.unit.now c.lose_partner.new.unit (g.S.Site.state c.args.site.now).queue (g.S.Site.state c.poll.new.self).queue _ (less_came (g.S.Site.state c.args.site.now).queue (g.S.Site.state c.poll.new.self).queue c.in-Got.number c.in-Got.entry (came _ (g.S.Site.state c.args.site.now).queue (g.S.Site.state c.reserve.new.self).queue (g.S.Site.state c.poll.new.self).queue c.in-Got.number c.in-Got.entry link c.reserve.ensures.rest c.poll.ensures.rest c.in-Got.ensures.got))
+    (record { most = omega (arith, ap (λ (list : List Request). length list) c.lose_partner.ensures.ends.pending); ends = λ is. absurd (cc (is)) })
+
+pub returns-in-None-clause-brings : goal.returns-in-None-clause-brings
+returns-in-None-clause-brings g c = λ link.
+    few_one c.args.unit.now _ (g.S.Site.state c.args.site.now).queue (g.S.Site.state c.poll.new.self).queue _ (less_came (g.S.Site.state c.args.site.now).queue (g.S.Site.state c.poll.new.self).queue c.in-Got.number c.in-Got.entry (came _ (g.S.Site.state c.args.site.now).queue (g.S.Site.state c.reserve.new.self).queue (g.S.Site.state c.poll.new.self).queue c.in-Got.number c.in-Got.entry link c.reserve.ensures.rest c.poll.ensures.rest c.in-Got.ensures.got))
+    (brings_none _ _ _ refl (λ is. absurd (cc (is))))
+
+pub returns-in-Unused-clause-brings : goal.returns-in-Unused-clause-brings
+returns-in-Unused-clause-brings g c = λ link.
+    few_one c.args.unit.now _ (g.S.Site.state c.args.site.now).queue (g.S.Site.state c.poll.new.self).queue _ (less_came (g.S.Site.state c.args.site.now).queue (g.S.Site.state c.poll.new.self).queue c.in-Got.number c.in-Got.entry (came _ (g.S.Site.state c.args.site.now).queue (g.S.Site.state c.reserve.new.self).queue (g.S.Site.state c.poll.new.self).queue c.in-Got.number c.in-Got.entry link c.reserve.ensures.rest c.poll.ensures.rest c.in-Got.ensures.got))
+    (brings_none _ _ _ refl (λ is. absurd (cc (is))))
+
+pub returns-in-Reserved-clause-brings : goal.returns-in-Reserved-clause-brings
+returns-in-Reserved-clause-brings g c = λ link.
+    few_one c.args.unit.now _ (g.S.Site.state c.args.site.now).queue (g.S.Site.state c.poll.new.self).queue _ (less_came (g.S.Site.state c.args.site.now).queue (g.S.Site.state c.poll.new.self).queue c.in-Got.number c.in-Got.entry (came _ (g.S.Site.state c.args.site.now).queue (g.S.Site.state c.reserve.new.self).queue (g.S.Site.state c.poll.new.self).queue c.in-Got.number c.in-Got.entry link c.reserve.ensures.rest c.poll.ensures.rest c.in-Got.ensures.got))
+    (brings_none _ _ _ refl (λ is. absurd (cc (is))))

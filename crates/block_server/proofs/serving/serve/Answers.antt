@@ -70,6 +70,9 @@ use Rattle.block_server.proofs.DoingAnswers.{rests_free, turn_from, turn_none, t
 use Rattle.block_server.proofs.DoingServes.{does_log_out, does_prepare, logs_out_first, made_alone, pending_on, prepares, turn_then}
 use Rattle.block_server.proofs.Taking.{id_stands}
 use Rattle.block_server.specs.Receipts.{is_ended}
+use Rattle.block_server.proofs.HeardOuts.{busy_less, busy_same, heard_behind, heard_equal, heard_served}
+use Rattle.block_server.specs.Talk.{to_come}
+use Rattle.block_server.proofs.ServedOuts.{none_pending, serve_out, serves_first, serves_out}
 use Rattle.block_server.proofs.serving.serve.Goals as goal
 
 pub returns-clause-advances : goal.returns-clause-advances
@@ -583,3 +586,36 @@ returns-clause-does g c = λ link apart free going.
     (c.answer.ensures.does found front.0 made.0 (ap (λ (s : Service). s.stage) c.note_stage.ensures.service ∙ made.1) (c.note_stage.ensures.pending ∙ front.1) link
     (c.prepare.ensures.advances.shared ∙ apart) (waiting_stands _ _ c.note_stage.ensures.stands ∙ free.waiting)
     (ap is_ended c.note_stage.ensures.line ∙ pending_on (is_ended unit.line) _ front.0 found front.1 going))
+
+pub returns-in_default-clause-hears : goal.returns-in_default-clause-hears
+returns-in_default-clause-hears g c = heard_equal _ _ _ _ refl (inr (busy_same _ _ refl refl refl))
+
+pub returns-in_err-make_room-clause-hears : goal.returns-in_err-make_room-clause-hears
+returns-in_err-make_room-clause-hears g c = heard_equal _ _ _ _ refl (inr (busy_same _ _ refl refl refl))
+
+pub returns-in-Logout-clause-hears : goal.returns-in-Logout-clause-hears
+returns-in-Logout-clause-hears g c = heard_served _ _ _ (busy_less _ _ (ap (λ (l : Line). l.closing) c.log_out.ensures.line) (waiting_stands _ _ c.log_out.ensures.stands) c.log_out.ensures.pending)
+
+pub returns-in_err-prepare-clause-hears : goal.returns-in_err-prepare-clause-hears
+returns-in_err-prepare-clause-hears g c = heard_equal _ _ _ _ c.prepare.ensures.queue (inr (busy_same _ _ refl refl refl))
+
+pub returns-clause-hears : goal.returns-clause-hears
+returns-clause-hears g c =
+    heard_behind _ c.note_stage.new.unit _ (g.S.Site.state c.args.site.now).queue (g.S.Site.state c.prepare.new.site).queue _ (ap to_come c.prepare.ensures.queue) (ap (λ (q : EndState). q.registered) c.prepare.ensures.queue)
+    (inr (busy_same _ _ (ap (λ (l : Line). l.closing) c.note_stage.ensures.line) (waiting_stands _ _ c.note_stage.ensures.stands) c.note_stage.ensures.pending)) c.answer.ensures.hears
+
+pub returns-in_default-clause-stops : goal.returns-in_default-clause-stops
+returns-in_default-clause-stops g c = λ apart.
+    inl (none_pending c.args.unit.now.pending.items (λ request rest parts. no_front c.args.unit.now.pending.items request rest parts (search rules)))
+
+pub returns-in-Logout-clause-stops : goal.returns-in-Logout-clause-stops
+returns-in-Logout-clause-stops g c = λ apart.
+    let front = front_is _ _ c.in-Some.ensures.item.3 in
+    serves_out c.args.unit.now c.log_out.new.unit (g.S.Site.state c.args.site.now).queue (g.S.Site.state c.args.site.now).queue refl (serves_first c.args.unit.now c.log_out.new.unit c.in-Some.request.now front.0 front.1 c.log_out.ensures.pending)
+
+pub returns-clause-stops : goal.returns-clause-stops
+returns-clause-stops g c = λ apart.
+    let front = front_is _ _ c.in-Some.ensures.item.3 in
+    serve_out c.args.unit.now c.note_stage.new.unit c.answer.new.unit (g.S.Site.state c.args.site.now) (g.S.Site.state c.prepare.new.site) (g.S.Site.state c.answer.new.site) c.in-Some.request.now front.0 c.prepare.new.service.stage c.answer.result
+    apart front.1 c.note_stage.ensures.pending (ap (λ (s : Service). s.stage) c.note_stage.ensures.service) c.prepare.ensures.advances.shared (c.answer.ensures.hears.coming ∙ ap to_come c.prepare.ensures.queue)
+    (c.in_ok-prepare.ensures.went (λ is. search rules)) (λ outcome at parts on. c.answer.ensures.stops c.in-Some.request.now front.0 outcome at parts on)

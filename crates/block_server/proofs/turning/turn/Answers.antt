@@ -1,4 +1,4 @@
-use Rattle.std.proofs.Common.{refl, rules, subst, sym, ◌∙◌, ap, inl, inr}
+use Rattle.std.proofs.Common.{arith, refl, rules, subst, sym, ◌∙◌, ap, inl, inr}
 use Rattle.vio_num.specs.declared.names.UnitId.{UnitId}
 use Rattle.block_server.specs.Heard.{TellsAll}
 use Rattle.block_server.proofs.Agreeing.{agrees_on}
@@ -8,7 +8,7 @@ use Rattle.block_server.proofs.Hearing.{once_by}
 use Rattle.block_server.proofs.Advancing.{advances_on, advances_same}
 use Rattle.block_server.proofs.Quieting.{on_ok, quiet_on}
 use Rattle.block_server.proofs.Onces.{once_on, once_then}
-use Rattle.block_server.proofs.Taking.{ended_stands, takes_none, takes_on}
+use Rattle.block_server.proofs.Taking.{ended_stands, takes_none, takes_on, waiting_stands}
 use Rattle.block_server.proofs.Ledgers.{explained_then}
 use Rattle.block_server.proofs.Jointly.{works, works_none, works_on}
 use Rattle.block_server.specs.Books.{books_at}
@@ -34,6 +34,11 @@ use Rattle.tce_window.specs.PortState.{PortPlace}
 use Rattle.block_server.proofs.Asides.{free_unkept, turn_freely, turn_then}
 use Rattle.block_server.proofs.Serves.{none_next}
 use Rattle.block_server.specs.Doings.{doing}
+use Rattle.block_server.specs.HeardOut.HearsOut.{keeps}
+use Rattle.block_server.proofs.HeardOuts.{fits_same, none_kept_on, ok_all, out_same, stops_before, stops_served}
+use Rattle.block_server.proofs.Taking.{passed_session, passed_taken}
+use Rattle.block_server.proofs.ServedOuts.{few_kept, out_from, stopped_out}
+use Rattle.block_server.proofs.DoingReplies.{come_same}
 use Rattle.block_server.proofs.turning.turn.Goals as goal
 
 pub returns-in_err-open_line-clause-once : goal.returns-in_err-open_line-clause-once
@@ -619,3 +624,49 @@ returns-clause-does g c = λ alone apart rests.
     let going = c.in_ok-take_in.ensures.goes alone still on (search rules) in
     on_ok c.serve.result _ _ (turn_then _ (doing c.take_in.new.unit (g.S.Site.state c.take_in.new.site) c.take_in.new.records) (doing c.serve.new.unit (g.S.Site.state c.serve.new.site) c.serve.new.records) took)
     (c.serve.ensures.does alone (c.take_in.ensures.advances.shared ∙ still) did.free (inl going))
+
+pub returns-then-eq-clause-heard : goal.returns-then-eq-clause-heard
+returns-then-eq-clause-heard g c = λ may. absurd (not_end c.in_ok-open_line.field-0 (search rules) (inl (c.in_ok-open_line.ensures.rests may.going may.event).0))
+
+pub returns-then-eq-2-clause-heard : goal.returns-then-eq-2-clause-heard
+returns-then-eq-2-clause-heard g c = λ may. keeps (c.in_ok-put_kept.ensures.keeps (search rules)) (c.in_ok-put_kept.ensures.full may.alone (search rules))
+
+pub returns-then-eq-3-clause-heard : goal.returns-then-eq-3-clause-heard
+returns-then-eq-3-clause-heard g c = λ may.
+    let first = c.in_ok-open_line.ensures.idle may.alone may.going may.event in
+    let few = fits_same (g.S.Site.state c.args.site.now).queue (g.S.Site.state c.open_line.new.site).queue first.0.place first.0.last_session first.0.taken may.few in
+    let out = c.in_ok-take_in.ensures.heard may.alone
+    (fits_same (g.S.Site.state c.open_line.new.site).queue (g.S.Site.state c.put_kept.new.site).queue c.put_kept.ensures.advances.queue_place (passed_session _ _ c.put_kept.ensures.passes) (passed_taken _ _ c.put_kept.ensures.passes) few) in
+    out_same 255 _ _ _ _ (c.put_kept.ensures.advances.shared ∙ c.open_line.ensures.advances.shared) (stops_before _ _ _ out)
+
+pub returns-clause-heard : goal.returns-clause-heard
+returns-clause-heard g c = λ may.
+    let first = c.in_ok-open_line.ensures.idle may.alone may.going may.event in
+    let few = fits_same (g.S.Site.state c.args.site.now).queue (g.S.Site.state c.open_line.new.site).queue first.0.place first.0.last_session first.0.taken may.few in
+    let out = c.in_ok-take_in.ensures.heard may.alone
+    (fits_same (g.S.Site.state c.open_line.new.site).queue (g.S.Site.state c.put_kept.new.site).queue c.put_kept.ensures.advances.queue_place (passed_session _ _ c.put_kept.ensures.passes) (passed_taken _ _ c.put_kept.ensures.passes) few) in
+    ok_all c.serve.result (out_same 255 _ _ _ _ (c.put_kept.ensures.advances.shared ∙ c.open_line.ensures.advances.shared) (stops_served _ _ _ _ _ (none_kept_on c.in_ok-take_in.field-0 _ c.in_ok-take_in.ensures.none (search rules)) c.serve.ensures.hears out))
+
+pub returns-then-eq-clause-serves : goal.returns-then-eq-clause-serves
+returns-then-eq-clause-serves g c = λ may apart waiting. absurd (not_end c.in_ok-open_line.field-0 (search rules) (inl (c.in_ok-open_line.ensures.rests may.going may.event).0))
+
+pub returns-then-eq-2-clause-serves : goal.returns-then-eq-2-clause-serves
+returns-then-eq-2-clause-serves g c = λ may apart waiting. inr (inr (inl (c.in_ok-put_kept.ensures.keeps (search rules))))
+
+pub returns-then-eq-3-clause-serves : goal.returns-then-eq-3-clause-serves
+returns-then-eq-3-clause-serves g c = λ may apart waiting.
+    let unwaiting = waiting_stands _ _ c.put_kept.ensures.stands ∙ ap (λ (u : Unit). u.waiting) (c.in_ok-open_line.ensures.rests may.going may.event).1 ∙ waiting in
+    stopped_out c.args.unit.now c.take_in.new.unit (g.S.Site.state c.args.site.now).queue (g.S.Site.state c.take_in.new.site).queue ((c.in_ok-take_in.ensures.brings may.alone unwaiting).ends (search rules))
+
+pub returns-clause-serves : goal.returns-clause-serves
+returns-clause-serves g c = λ may apart waiting.
+    let same = (c.in_ok-open_line.ensures.rests may.going may.event).1 in
+    let unwaiting = waiting_stands _ _ c.put_kept.ensures.stands ∙ ap (λ (u : Unit). u.waiting) same ∙ waiting in
+    let first = c.in_ok-open_line.ensures.idle may.alone may.going may.event in
+    let come = come_same (g.S.Site.state c.args.site.now).queue (g.S.Site.state c.open_line.new.site).queue first.0.place first.0.last_session first.0.taken in
+    let coming = come_same (g.S.Site.state c.open_line.new.site).queue (g.S.Site.state c.put_kept.new.site).queue c.put_kept.ensures.advances.queue_place (passed_session _ _ c.put_kept.ensures.passes) (passed_taken _ _ c.put_kept.ensures.passes) in
+    let kept = few_kept c.args.unit.now c.open_line.new.unit c.put_kept.new.unit (g.S.Site.state c.args.site.now).queue (g.S.Site.state c.open_line.new.site).queue (g.S.Site.state c.put_kept.new.site).queue
+    (ap (λ (u : Unit). u.pending.items) same) come c.put_kept.ensures.pending coming in
+    out_from c.args.unit.now c.take_in.new.unit c.serve.new.unit (g.S.Site.state c.args.site.now).queue (g.S.Site.state c.take_in.new.site).queue (g.S.Site.state c.serve.new.site).queue c.serve.result
+    (omega (arith, kept, (c.in_ok-take_in.ensures.brings may.alone unwaiting).most))
+    (c.serve.ensures.stops (c.take_in.ensures.advances.shared ∙ c.put_kept.ensures.advances.shared ∙ c.open_line.ensures.advances.shared ∙ apart))

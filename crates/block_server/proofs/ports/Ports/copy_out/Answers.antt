@@ -12,6 +12,7 @@ use Rattle.block_server.proofs.UnitBytes.{lays_none, only_copies}
 use Rattle.block_server.proofs.RangeLaws.{copy_within, lays_none as lays_nothing}
 use Rattle.block_server.proofs.Bearing.{bears_none, copy_bears}
 use Rattle.block_server.proofs.BearingParts.{copy_missed}
+use Rattle.block_server.proofs.Windows.{held_before}
 use Rattle.block_server.proofs.ports.Ports.copy_out.Goals as goal
 
 pub returns-clause-advances : goal.returns-clause-advances
@@ -92,4 +93,9 @@ returns-then-is_err-clause-bears g c = bears_none _ _
 pub returns-clause-missed : goal.returns-clause-missed
 returns-clause-missed g c =
     copy_missed c.note.result c.copy_rdma-answer.result g.R.WindowPort.is_shared _ _ c.copy_rdma-answer.ensures.refused c.note.ensures.none
+    c.copy_rdma-answer.ensures.target
+
+pub returns-clause-may : goal.returns-clause-may
+returns-clause-may g c =
+    held_before g.R.WindowPort.is_shared (g.O.WindowPort.state c.copy_rdma-answer.new.src) _ _ _ _ _ c.copy_rdma-answer.result c.note.result c.requires.some c.note.ensures.made c.copy_rdma-answer.ensures.held
     c.copy_rdma-answer.ensures.target

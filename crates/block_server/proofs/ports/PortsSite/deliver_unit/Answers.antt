@@ -14,6 +14,8 @@ use Rattle.block_server.proofs.Standing.{stands_one}
 use Rattle.block_server.proofs.Bearing.{bears_same}
 use Rattle.block_server.proofs.BearingParts.{unit_bears}
 use Rattle.block_server.proofs.DataFetches.{on_err_map}
+use Rattle.rdma_copy.specs.Copies.{MayHold}
+use Rattle.tce_window.specs.declared.answers.Right.TheVariants.{Write}
 use Rattle.block_server.proofs.ports.PortsSite.deliver_unit.Goals as goal
 
 pub returns-in-Ok-clause-advances : goal.returns-in-Ok-clause-advances
@@ -76,3 +78,8 @@ returns-in-Ok-clause-missed g c =
 
 pub returns-in-Err-clause-missed : goal.returns-in-Err-clause-missed
 returns-in-Err-clause-missed g c = ap (seen_in g.R.WindowPort.is_shared) c.write_own.ensures.client
+
+pub returns-in-Ok-clause-may : goal.returns-in-Ok-clause-may
+returns-in-Ok-clause-may g c =
+    on_ok_map c.copy_out.result _ _ (λ may alone. subst (λ (port : PortState). MayHold port Write c.args.address (length c.args.bytes.now)) c.write_own.ensures.client (may alone))
+    c.copy_out.ensures.may

@@ -46,6 +46,8 @@ use Rattle.block_server.specs.Doings.{UnitDoes}
 use Rattle.block_server.specs.TurnLeaves.{CopiesGoOn, PortsGoOn, SaysMoved}
 use Rattle.block_server.specs.TurnTold.{stock}
 use Rattle.std.proofs.lemmas.List.{length-set}
+use Rattle.block_server.specs.HeardOut.{UnitHearsOut}
+use Rattle.block_server.proofs.HeardOuts.{may_unmoved, unit_hears}
 use Rattle.block_server.proofs.server.Server.turn.Goals as goal
 
 pub returns-clause-stays : goal.returns-clause-stays
@@ -354,3 +356,18 @@ returns-clause-does g c = λ alone apart u at rests.
     (unit_does server.units.items c.args.unit u c.index_mut-turned.result.now c.turn-done.new.unit name (g.O.WindowPort.state c.turn-done.new.site.own.now).place.unit
     (g.C.CrqEnd.state c.args.crq.now) (g.C.CrqEnd.state c.turn-done.new.site.queue.now) (g.R.WindowPort.state c.args.client.now) (g.R.WindowPort.state c.turn-done.new.site.client.now) _ _ _ _ c.told.result
     there at (λ i. (c.turn-done.ensures.advances.own_place i).unit) (λ rests. told_on c.turn-done.result c.turn-done.new.unit.moved c.told.result c.told.ensures _ _ (λ does. does) (c.turn-done.ensures.does alone apart rests)) rests)
+
+pub returns-clause-heard : goal.returns-clause-heard
+returns-clause-heard g c = λ u at may.
+    let server = c.args.self.now in
+    let there : slice_get server.units.items c.args.unit ≡ Some c.index_mut-turned.result.now =
+    slice_get_read server.units.items _ c.args.unit _ server.units.ok.0 c.requires.unit c.index_mut-turned.ensures.value in
+    let lent = c.turn-done.ensures.advances.reached in
+    let queue = sym (ap g.C.CrqEnd.state (c.crq-1.given.1 (sym (ap (λ (lent : Lenders). lent.queue) lent)))) in
+    subst (λ (q : EndState). OnOk c.told.result (UnitHearsOut (slice_set server.units.items c.args.unit c.turn-done.new.unit) c.args.unit u g.R.WindowPort.is_shared (g.C.CrqEnd.state c.args.crq.now) q)) queue
+    (unit_hears server.units.items c.args.unit u c.index_mut-turned.result.now c.turn-done.new.unit g.C.CrqEnd.is_shared g.R.WindowPort.is_shared (g.C.CrqEnd.state c.args.crq.now)
+    (g.C.CrqEnd.state c.turn-done.new.site.queue.now) c.told.result there at
+    (λ may. told_on c.turn-done.result c.turn-done.new.unit.moved c.told.result c.told.ensures _ _ (λ out. out)
+    (c.turn-done.ensures.heard (may_unmoved c.index_mut-turned.result.now (g.C.CrqEnd.state c.args.crq.now) g.C.CrqEnd.is_shared may)))
+    (λ may apart waiting. told_on c.turn-done.result c.turn-done.new.unit.moved c.told.result c.told.ensures _ _ (λ out. out)
+    (c.turn-done.ensures.serves (may_unmoved c.index_mut-turned.result.now (g.C.CrqEnd.state c.args.crq.now) g.C.CrqEnd.is_shared may) apart waiting)) may)

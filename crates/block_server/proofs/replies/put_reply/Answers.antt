@@ -17,7 +17,8 @@ use Rattle.block_server.proofs.Listening.{full_no, not_put_reply, sends_reply}
 use Rattle.std.proofs.Common.{inl, inr}
 use Rattle.block_server.proofs.DoingReplies.{loses_reach, puts_reach, reach_on, reached_dropped, reached_sent, reply_sent, shut_reach}
 use Rattle.block_server.proofs.Serves.{same_sent}
-use Rattle.block_server.proofs.answering.put_reply.Goals as goal
+use Rattle.block_server.proofs.HeardOuts.{no_room}
+use Rattle.block_server.proofs.replies.put_reply.Goals as goal
 
 pub returns-in-Dropped-clause-once : goal.returns-in-Dropped-clause-once
 returns-in-Dropped-clause-once g c = λ records disk serving.
@@ -112,3 +113,12 @@ returns-in_default-clause-aside g c = λ records alone.
           (shut_reach _ (g.S.Site.state c.args.site.now).queue (g.S.Site.state c.send.new.self).queue c.send.result alone c.in_default.not-Success c.in_default.not-Dropped c.send.ensures.closed c.send.ensures.unregistered),
       refl,
     ))
+
+pub returns-in-Dropped-clause-full : goal.returns-in-Dropped-clause-full
+returns-in-Dropped-clause-full g c = λ link other. no_room _ _ (g.S.Site.state c.send.new.self).queue c.in-Dropped.number c.in-Dropped.held link c.send.ensures.rest.place c.in-Dropped.ensures.dropped
+
+pub returns-in-Success-clause-full : goal.returns-in-Success-clause-full
+returns-in-Success-clause-full g c = λ link other. absurd (other refl)
+
+pub returns-in_default-clause-full : goal.returns-in_default-clause-full
+returns-in_default-clause-full g c = λ link other. absurd (other refl)
