@@ -83,6 +83,7 @@ pub mod Giving
 pub mod Going
 pub mod Gone
 pub mod GivesAll
+pub mod Handling
 pub mod HeardTurns
 pub mod Hearings
 pub mod Held
@@ -105,6 +106,7 @@ pub mod Losing
 pub mod Makers
 pub mod Marked
 pub mod MomentsThen
+pub mod Moving
 pub mod Naming
 pub mod Opened
 pub mod OpenRounds
@@ -184,6 +186,7 @@ pub mod PlainReset
 pub mod PlainResets
 pub mod PlainRest
 pub mod PlainRests
+pub mod PlainRights
 pub mod PlainRooms
 pub mod PlainRounds
 pub mod PlainRuns

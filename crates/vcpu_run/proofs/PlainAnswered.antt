@@ -31,12 +31,12 @@ use Rattle.vscsi_client.specs.State.{ClientState}
 use Rattle.vscsi_client.specs.Units.{slot_address}
 use Rattle.vscsi_client.specs.declared.TheConstants.{DATA_START}
 use Rattle.vcpu_run.proofs.PlainData.{data_goes, data_stays, served_data}
-use Rattle.vcpu_run.specs.PlainTalk.{AnswerStands, Ask, Between, ClientStays, DataLies, InPhase, IsAnswerTo, IsAsk, IsFair, IsOwnWindow, IsPendingAs, KeepsSlots, IsAnswerBy, TalksPlainly, is_counted, is_grant, is_granted, is_login, is_logout}
+use Rattle.vcpu_run.specs.PlainTalk.{AnswerStands, Ask, Between, ClientStays, DataLies, HasRights, InPhase, IsAnswerTo, IsAsk, IsFair, IsOwnWindow, IsPendingAs, KeepsSlots, IsAnswerBy, TalksPlainly, is_counted, is_grant, is_granted, is_login, is_logout, shown, shown_on}
 use Rattle.vcpu_run.proofs.PlainLeaves.{lays_keep, suits_grant}
-use Rattle.vcpu_run.proofs.PlainPages.{shown, shown_long, shown_on}
+use Rattle.vcpu_run.proofs.PlainPages.{shown_long}
 use Rattle.vcpu_run.proofs.PlainServed.{LeavesElse, LeavesSlots, talk_behind}
 use Rattle.vcpu_run.proofs.PlainSlots.{slot_on}
-use Rattle.vcpu_run.proofs.PlainStands.{IsOnPage, shown_stand, stand_shown}
+use Rattle.vcpu_run.proofs.PlainStands.{IsOnPage, stand_shown}
 use Rattle.vcpu_run.proofs.PlainTurns.{Turns, away_behind, begun_behind, calm_behind}
 use Rattle.vcpu_run.proofs.PlainUnits.{granted_more, rejected_more, response_more, canon_spells}
 use Rattle.unit_region.specs.RegionLines.{IsOn}
@@ -196,8 +196,7 @@ says_stands : (window : PortState) → IsOwnWindow window → (ask : Ask) (outco
 says_stands window own ask outcome bytes long is_ask granted who says some few show = record {
   few = few;
   bytes = whole;
-  stand = shown_stand window own (slot_address ask.slot) whole
-      (subst (λ n. IsOnPage window (slot_address ask.slot) n) (sym size) on) (ap (λ (n : ℕ). shown window (slot_address ask.slot) n) size);
+  stand = ap (λ (n : ℕ). shown window (slot_address ask.slot) n) size;
   whole = size;
   spelled = subst (λ (list : List ℕ). Spells list says.answer) (sym split) (says.spelled (drop (length bytes) whole) (omega (arith, size, ap length split)));
   suits = says.suits;
@@ -255,14 +254,12 @@ same_known : (old new : PortState) → Some (known_in new) ≡ Some (known_in ol
 same_known old new e = cc (e)
 
 -- nothing was laid
-none_keeps : (old new : PortState) → IsOwnWindow old → IsOwnWindow new → new.place ≡ old.place → known_in new ≡ known_in old → KeepsSlots (λ slot. ⊤) old new
-none_keeps old new own own' place same = record {
+none_keeps : (old new : PortState) → new.place ≡ old.place → known_in new ≡ known_in old → KeepsSlots (λ slot. ⊤) old new
+none_keeps old new place same = record {
   unit = ap (λ place. place.unit) place;
   strokes = λ page stroke is. subst (λ (k : Known). IsOn stroke (k.strokes page)) (sym same) is;
-  slots = λ slot bytes within spares whole stand.
-      shown_stand new own' (slot_address slot) bytes (slot_on new own' slot (length bytes) within (omega (arith, whole)) (omega (arith, whole)))
-      (ap (λ (k : Known). shown_on (k.strokes (slot_address slot / 4096)) (slot_address slot % 4096) (length bytes)) same
-      ∙ stand_shown old own (slot_address slot) bytes (slot_on old own slot (length bytes) within (omega (arith, whole)) (omega (arith, whole))) stand);
+  slots = λ slot bytes within spares whole shows.
+      ap (λ (k : Known). shown_on (k.strokes (slot_address slot / 4096)) (slot_address slot % 4096) (length bytes)) same ∙ shows;
 }
 
 pub not_out : (current : ℕ) (order : Order) (outcome : Outcome) → Suits current order outcome → order ≢ orders.Logout
@@ -273,12 +270,12 @@ not_out current order outcome suits is = none outcome (subst (λ (o : Order). Su
     none outcomes.Rejected suits = suits
     none (outcomes.Served row) suits = suits
 
-pub leaves_slots : (at at' : Between) (lines lines' : List Grant) (rows rows' : List Served) (name : UnitId) (words : List Word) (turn : Turns at at' lines lines' words) → name ≡ at'.unit.id → at.window.place.unit ≢ at'.unit.id → IsOwnWindow at.window → IsOwnWindow at'.window
+pub leaves_slots : (at at' : Between) (lines lines' : List Grant) (rows rows' : List Served) (name : UnitId) (words : List Word) (turn : Turns at at' lines lines' words) → name ≡ at'.unit.id → at.window.place.unit ≢ at'.unit.id → IsOwnWindow at.window → IsOwnWindow at'.window → HasRights at'.window
     → at'.window.place ≡ at.window.place → at.server.place.partner_registered ≡ true
     → WritesOn (stood at.window) at.unit at.server words (seen_in false at.window) (seen_in false at'.window)
     → LeavesOn name at.unit at.server words at'.server at.window at'.window rows rows'
     → LeavesSlots at.window at'.window turn.middle at'.unit turn.between.queue at'.server turn.added lines' turn.serves
-leaves_slots at at' lines lines' rows rows' name words turn called apart own own' place on wrote left = by turn.serves
+leaves_slots at at' lines lines' rows rows' name words turn called apart own own' rights place on wrote left = by turn.serves
   where
     keeps : (request : Request) (rest : List Request) → turn.middle.pending.items ≡ request ∷ rest → (ask : Ask) → IsPendingAs request ask → IsAsk ask → DataLies at.window ask
         → LeavesElse ask at.window at'.window
@@ -314,7 +311,7 @@ leaves_slots at at' lines lines' rows rows' name words turn called apart own own
         let at_slot : IsOnPage at'.window (slot_address ask.slot) (length leaves.bytes) =
         slot_on at'.window own' ask.slot (length leaves.bytes) is_ask.slot_is leaves.stands.some few in
         let show : shown at'.window (slot_address ask.slot) (length leaves.bytes) ≡ leaves.bytes =
-        stand_shown at'.window own' (slot_address ask.slot) leaves.bytes at_slot
+        stand_shown at'.window own' rights (slot_address ask.slot) leaves.bytes at_slot
         (subst (λ address. StandAt at'.window address leaves.bytes) pending.address
         (leaves.stands.stand (subst (λ address. address % 4096 + length leaves.bytes ≤ 4096) (sym pending.address) at_slot.fits))) in
         let known : AnswerStands turn.middle.logins.granted at'.unit.id at'.window ask one.long leaves.outcome says.answer =
@@ -336,7 +333,7 @@ leaves_slots at at' lines lines' rows rows' name words turn called apart own own
         → LeavesSlots at.window at'.window turn.middle at'.unit turn.between.queue at'.server turn.added lines' serves
     by (inl none) =
         let same = same_known at.window at'.window (wrote.none (talk_of turn.middle) turn.hears.heard none.none) in (
-          none_keeps at.window at'.window own own' place same,
+          none_keeps at.window at'.window place same,
           λ ask spares its. data_stays at.window at'.window ask (λ a of. ap (λ (k : Known). region_byte k.strokes a) same) its,
         )
     by (inr (request, rest, items, inl out)) = λ ask pending is_ask its. keeps request rest items ask pending is_ask its
@@ -345,10 +342,10 @@ leaves_slots at at' lines lines' rows rows' name words turn called apart own own
 
 -- Behind a turn of the server unit what is so between them is so, and nothing is to come.
 pub plainly_served : (granted : ℕ) (at at' : Between) (lines lines' : List Grant) (rows rows' : List Served) (name : UnitId) (words : List Word) → TalksPlainly granted at words → (turn : Turns at at' lines lines' words)
-    → ClientStays at at' → at'.unit.id ≡ at.unit.id → name ≡ at'.unit.id → at.window.place.unit ≢ at'.unit.id → at'.window.place ≡ at.window.place
+    → ClientStays at at' → HasRights at'.window → at'.unit.id ≡ at.unit.id → name ≡ at'.unit.id → at.window.place.unit ≢ at'.unit.id → at'.window.place ≡ at.window.place
     → WritesOn (stood at.window) at.unit at.server words (seen_in false at.window) (seen_in false at'.window)
     → LeavesOn name at.unit at.server words at'.server at.window at'.window rows rows' → TalksPlainly granted at' []
-plainly_served granted at at' lines lines' rows rows' name words talks turn stays id called apart place wrote left = record {
+plainly_served granted at at' lines lines' rows rows' name words talks turn stays rights id called apart place wrote left = record {
   calm = calm_behind granted at at' lines lines' words talks.calm turn stays;
   phase = by talks.phase;
   tabled = ap (λ (s : ClientState). s.tabled) stays.client ∙ talks.tabled;
@@ -359,4 +356,4 @@ plainly_served granted at at' lines lines' rows rows' name words talks turn stay
     by (inr (inl begun)) = inr (inl (begun_behind granted at at' lines lines' words talks.calm begun turn stays))
     by (inr (inr (asked, answers, talk))) =
         inr (inr (talk_behind granted at at' lines lines' words asked answers talks.calm talk turn stays id
-        (leaves_slots at at' lines lines' rows rows' name words turn called apart talks.calm.usable stays.usable place (talks.calm.ends.server_sees.partner ∙ talk.registered) wrote left)))
+        (leaves_slots at at' lines lines' rows rows' name words turn called apart talks.calm.usable stays.usable rights place (talks.calm.ends.server_sees.partner ∙ talk.registered) wrote left)))

@@ -29,25 +29,23 @@ use Rattle.vscsi_client.specs.Units.{slot_address}
 use Rattle.vscsi_client.specs.declared.TheConstants.{DATA_START}
 use Rattle.vscsi_client.specs.declared.outgoing.Outgoing.{Outgoing}
 use Rattle.vscsi_client.specs.declared.outgoing.Span.{Span}
-use Rattle.vcpu_run.specs.PlainClients.{keeps_own}
 use Rattle.vcpu_run.specs.PlainSteps.{AreReplayedAs, FollowsReplay, HasCome, HasToDo, IsAsReplayed, IsReplayedAs, Own, SparesTables, StepsOn, StepsPlainly, beside, StepTells}
-use Rattle.vcpu_run.specs.PlainTalk.{Between, IsOwnEntry, IsOwnWindow, KeepsTables, KeepsSlots, ServerStays, TalksPlainly, awaited, name_of, owes}
+use Rattle.vcpu_run.specs.PlainTalk.{Between, IsOwnEntry, IsOwnWindow, KeepsTables, KeepsSlots, ServerStays, TalksPlainly, awaited, name_of, owes, shown_on}
 use Rattle.vcpu_run.specs.Replay.{Asked as Replayed, Replay, after_line, any_share, ends_as, range, share_page}
 use Rattle.vcpu_run.specs.declared.script.Progress.{Progress}
 use Rattle.vcpu_run.proofs.PlainAsking.{follows_still, none_anew}
 use Rattle.vcpu_run.proofs.PlainData.{data_same, span_data}
 use Rattle.vcpu_run.proofs.PlainNotes.{notes_same}
 use Rattle.vcpu_run.proofs.PlainOwed.{plain_none, told_idle}
-use Rattle.vcpu_run.proofs.PlainPages.{shown_on}
-use Rattle.vcpu_run.proofs.PlainPuts.{LeavesWindow, both_true}
+use Rattle.vcpu_run.proofs.PlainPuts.{LeavesWindow}
 use Rattle.vcpu_run.proofs.PlainShares.{any_same, or_false}
-use Rattle.vcpu_run.proofs.PlainSlots.{behind_apart, slot_on, write_keeps}
-use Rattle.vcpu_run.proofs.PlainStands.{IsOnPage, shown_stand, stand_shown}
+use Rattle.vcpu_run.proofs.PlainSlots.{behind_apart, write_keeps}
 use Rattle.vcpu_run.proofs.PlainStays.{laid_own}
 use Rattle.vcpu_run.proofs.PlainStill.{all_true, awaited_spared, plainly_still, reads_data, reads_leave}
 use Rattle.unit_region.specs.RegionLines.{IsOn}
 use Rattle.vio_num.specs.declared.names.UnitId.{UnitId}
 use Rattle.vcpu_run.specs.PlainRejected.{TellsRejection}
+use Rattle.vcpu_run.specs.PlainClients.{names_own}
 
 -- The replay says nothing of a line, and is what it was behind it.
 pub record IsUntold (verb : Verb) : Type 0 where
@@ -136,18 +134,15 @@ untold_on spared verb p p' old new (Ok step) untold plain client noted end all l
 
 -- ---- what the line leaves of the window
 
-still_leaves : (old new : PortState) → IsOwnWindow old → IsOwnWindow new → new.place ≡ old.place → ((p : ℕ) → new.strokes p ≡ old.strokes p) → LeavesWindow (λ slot. ⊤) old new
-still_leaves old new own own' place same = record { own = own'; keeps = keeps }
+still_leaves : (old new : PortState) → IsOwnWindow new → new.place ≡ old.place → ((p : ℕ) → new.strokes p ≡ old.strokes p) → LeavesWindow (λ slot. ⊤) old new
+still_leaves old new own place same = record { own = own; keeps = keeps }
   where
     keeps : KeepsSlots (λ slot. ⊤) old new
     keeps = record {
       strokes = λ page stroke is. subst (IsOn stroke) (sym (same page)) is;
       unit = ap (λ place. place.unit) place;
-      slots = λ slot bytes within spares whole stand.
-          let on : IsOnPage old (slot_address slot) (length bytes) = slot_on old own slot (length bytes) within (omega (arith, whole)) (omega (arith, whole)) in
-          shown_stand new own' (slot_address slot) bytes (slot_on new own' slot (length bytes) within (omega (arith, whole)) (omega (arith, whole)))
-          (ap (λ (now : Option (List StrokeValue)). shown_on now (slot_address slot % 4096) (length bytes)) (same (slot_address slot / 4096))
-          ∙ stand_shown old own (slot_address slot) bytes on stand);
+      slots = λ slot bytes within spares whole shows.
+          ap (λ (now : Option (List StrokeValue)). shown_on now (slot_address slot % 4096) (length bytes)) (same (slot_address slot / 4096)) ∙ shows;
     }
 
 -- the window is still its owner's own, where each of its entries is
@@ -161,7 +156,7 @@ entries_own old new own place same entries = record {
 
 same_leaves : (old new : PortState) → IsOwnWindow old → OnlyWrites old new → ((p : ℕ) → new.strokes p ≡ old.strokes p) → LeavesWindow (λ slot. ⊤) old new
 same_leaves old new own only same =
-    still_leaves old new own
+    still_leaves old new
     (entries_own old new own only.place same (λ e. subst (IsOwnEntry e) (sym (ap (λ (values : ℕ → List ℕ). values e) only.values)) (own.values e))) only.place same
 
 none_laid : (strokes : Option (List StrokeValue)) → with_strokes strokes [] ≡ strokes
@@ -223,30 +218,20 @@ page_of page false true = omega arith
 page_of page false false = omega arith
 
 -- an entry with one value more that keeps it its own
-own_put : (entry page : ℕ) (readable writable : Bool) (list : List ℕ) → keeps_own (verbs.Tce entry page readable writable) ≡ true → IsOwnEntry entry list
+own_put : (entry page : ℕ) (readable writable : Bool) (list : List ℕ) → names_own (verbs.Tce entry page readable writable) ≡ true → IsOwnEntry entry list
     → IsOwnEntry entry (list ++ tce_of page readable writable ∷ [])
 own_put entry page readable writable list keeps own = record {
   names = λ version value shown. by version value (get_either list (tce_of page readable writable) version value shown);
-  usable = λ front. (list, ap (λ (v : ℕ). list ++ v ∷ []) (rights (nat_le DATA_START (4096 * entry)) readable writable refl both.1 front));
 }
   where
-    both : ((page == entry) ≡ true) × ((nat_le DATA_START (4096 * entry) || (readable && writable)) ≡ true)
-    both = both_true (page == entry) (nat_le DATA_START (4096 * entry) || (readable && writable)) keeps
-
     page_is : page ≡ entry
-    page_is = grind (arith, nat_tests, both.0)
+    page_is = grind (arith, nat_tests, keeps)
 
     by : (version value : ℕ) → (slice_get list version ≡ Some value) ⊎ (value ≡ tce_of page readable writable) → value / 4096 ≡ entry
     by version value (inl before) = own.names version value before
     by version value (inr last) = ap (λ (v : ℕ). v / 4096) last ∙ page_of page readable writable ∙ page_is
 
-    rights : (b r w : Bool) → nat_le DATA_START (4096 * entry) ≡ b → (b || (r && w)) ≡ true → 4096 * entry < DATA_START → tce_of page r w ≡ 4096 * entry + 3
-    rights true r w at is front = absurd (grind (arith, nat_tests, at, front))
-    rights false true true at is front = omega (arith, page_is)
-    rights false true false at is front = absurd (true≢false (sym is))
-    rights false false w at is front = absurd (true≢false (sym is))
-
-put_at : (entry page e : ℕ) (readable writable : Bool) (old new : List ℕ) (b : Bool) → keeps_own (verbs.Tce entry page readable writable) ≡ true → (4096 * entry / 4096 == e) ≡ b
+put_at : (entry page e : ℕ) (readable writable : Bool) (old new : List ℕ) (b : Bool) → names_own (verbs.Tce entry page readable writable) ≡ true → (4096 * entry / 4096 == e) ≡ b
     → new ≡ old ++ cond b (tce_of page readable writable ∷ []) [] → IsOwnEntry e old → IsOwnEntry e new
 put_at entry page e readable writable old new false keeps at is own = subst (IsOwnEntry e) (sym (is ∙ append-nil old)) own
 put_at entry page e readable writable old new true keeps at is own =
@@ -258,7 +243,7 @@ put_at entry page e readable writable old new true keeps at is own =
 none_put : (at e : ℕ) (old new : PortState) → Puts old at [] new → IsOwnEntry e (old.values e) → IsOwnEntry e (new.values e)
 none_put at e old new puts own = subst (IsOwnEntry e) (sym (puts.values e ∙ append-nil (old.values e))) own
 
-entry_put : (entry page e : ℕ) (readable writable : Bool) (old new : PortState) (step : Step) → keeps_own (verbs.Tce entry page readable writable) ≡ true
+entry_put : (entry page e : ℕ) (readable writable : Bool) (old new : PortState) (step : Step) → names_own (verbs.Tce entry page readable writable) ≡ true
     → AnswersPut old new entry (tce_of page readable writable) step → IsOwnEntry e (old.values e) → IsOwnEntry e (new.values e)
 entry_put entry page e readable writable old new (steps.Ends (outcomes.Code codes.Success)) keeps answer own =
     put_at entry page e readable writable (old.values e) (new.values e) (4096 * entry / 4096 == e) keeps refl (answer.1.values e) own
@@ -267,12 +252,12 @@ entry_put entry page e readable writable old new (steps.Ends (outcomes.Code code
 entry_put entry page e readable writable old new (steps.Ends outcome) keeps answer own = absurd answer
 entry_put entry page e readable writable old new (steps.Waits did) keeps answer own = none_put (4096 * entry) e old new answer.1 own
 
-put_leaves : (entry page : ℕ) (readable writable : Bool) (old new : PortState) (result : Result Step NoMemory) → keeps_own (verbs.Tce entry page readable writable) ≡ true
+put_leaves : (entry page : ℕ) (readable writable : Bool) (old new : PortState) (result : Result Step NoMemory) → names_own (verbs.Tce entry page readable writable) ≡ true
     → new.place ≡ old.place → ((p : ℕ) → new.strokes p ≡ old.strokes p) → IfOk result (AnswersPut old new entry (tce_of page readable writable))
     → IfOk result (λ step. IsOwnWindow old → LeavesSpared (λ o. ⊤) old new)
 put_leaves entry page readable writable old new (Err memory) keeps place same answers = tt
 put_leaves entry page readable writable old new (Ok step) keeps place same answer = λ own. record {
-  slots = still_leaves old new own
+  slots = still_leaves old new
       (entries_own old new own place same (λ e. entry_put entry page e readable writable old new step keeps answer (own.values e))) place same;
   tables = λ ask spares its. data_same old new same ask tt its;
 }

@@ -109,6 +109,7 @@ pair_new granted told home k list pair driver none start most less is apart open
       driver_is = is;
       new = between_new granted unit.0 driver pair (new_at (slice_get list k) unit.0 unit.1 (start.made k))
           (all_at (λ (u : Unit). u.logins.granted ≡ granted) list k unit.0 start.granting unit.1) most opened;
+      rights = opened.rights;
       owed = omega (arith, ap granted_in none);
       laid = subst (All (TellsOf unit.0.id (known_of pair.window).strokes)) (sym none) (All-nil (TellsOf unit.0.id (known_of pair.window).strokes));
       lines = All-nil (λ (line : Grant). same_unit (unit_named line) (server_id home k) ≡ true → ends_by_client line ≡ true);

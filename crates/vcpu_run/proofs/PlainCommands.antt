@@ -21,9 +21,8 @@ use Rattle.vscsi_client.specs.declared.stage.Stage.TheVariants.{Idle}
 use Rattle.vcpu_run.proofs.PlainBuffers.{op_data}
 use Rattle.vcpu_run.proofs.PlainData.{data_kept, data_on, unit_data}
 use Rattle.vcpu_run.proofs.PlainOps.{TableLies, table_lies}
-use Rattle.vcpu_run.specs.PlainTalk.{Ask, Between, DataLies, IsAsk, IsCalm, IsOwnWindow, KeepsTables, ServerStays, TalksPlainly, client_ports, word_of}
+use Rattle.vcpu_run.specs.PlainTalk.{Ask, Between, DataLies, IsAsk, IsCalm, IsOwnWindow, KeepsTables, ServerStays, TalksPlainly, client_ports, shown, word_of}
 use Rattle.vcpu_run.proofs.PlainAsks.{Sends, SendsOut}
-use Rattle.vcpu_run.proofs.PlainPages.{shown}
 use Rattle.vcpu_run.proofs.PlainPuts.{LeavesUnit, LeavesWindow, come_still, entry_put, tables_leave, unit_laid}
 use Rattle.vcpu_run.proofs.PlainSays.{EntryPut, plainly_out, plainly_sends}
 use Rattle.vcpu_run.proofs.PlainSent.{StaysElse, command_sends, logout_sends, slot_free, task_sends}
@@ -68,7 +67,7 @@ pub command_says : (granted line : ℕ) (op : Op) (at at' : Between) (tag : ℕ)
     → TalksPlainly granted at' (word_of (record { tag = next_tag at.client; slot = sub.slot; iu = units.Cmd sub.command; bytes = sub.put.0; pages = data_span op; table = table_span op; start = op.at }) ∷ [])
 command_says granted line op at at' tag sub fits talks idle rest stays =
     plainly_sends granted at at' ask (srp_entry (length sub.put.0) (slot_address sub.slot)) talks went.registered sends went.put
-    (unit_said at'.window ask went.put.usable sends.is_ask went.stands)
+    (unit_said at'.window ask sends.is_ask went.stands)
   where
     ask : Ask
     ask = record { tag = next_tag at.client; slot = sub.slot; iu = units.Cmd sub.command; bytes = sub.put.0; pages = data_span op; table = table_span op; start = op.at }
@@ -112,7 +111,7 @@ pub task_says : (granted line function task : ℕ) (at at' : Between) (tag : ℕ
     → TalksPlainly granted at' (word_of (record { tag = next_tag at.client; slot = sub.slot; iu = task_unit function task at.client; bytes = sub.put.put.0; pages = no_pages; table = no_pages; start = 0 }) ∷ [])
 task_says granted line function task at at' tag sub talks idle rest stays =
     plainly_sends granted at at' ask (srp_entry (length sub.put.put.0) (slot_address sub.slot)) talks went.registered sends went.put
-    (unit_said at'.window ask went.put.usable sends.is_ask went.stands)
+    (unit_said at'.window ask sends.is_ask went.stands)
   where
     ask : Ask
     ask = record { tag = next_tag at.client; slot = sub.slot; iu = task_unit function task at.client; bytes = sub.put.put.0; pages = no_pages; table = no_pages; start = 0 }
@@ -128,7 +127,7 @@ pub logout_says : (granted line : ℕ) (at at' : Between) (tag : ℕ) (sub : Log
     → TalksPlainly granted at' (word_of (record { tag = next_tag at.client; slot = sub.slot; iu = logout_unit at.client; bytes = sub.put.put.0; pages = no_pages; table = no_pages; start = 0 }) ∷ [])
 logout_says granted line at at' tag sub talks idle rest stays =
     plainly_out granted at at' ask (srp_entry (length sub.put.put.0) (slot_address sub.slot)) talks went.registered sends went.put
-    (unit_said at'.window ask went.put.usable sends.is_ask went.stands)
+    (unit_said at'.window ask sends.is_ask went.stands)
   where
     ask : Ask
     ask = record { tag = next_tag at.client; slot = sub.slot; iu = logout_unit at.client; bytes = sub.put.put.0; pages = no_pages; table = no_pages; start = 0 }

@@ -43,7 +43,7 @@ use Rattle.vcpu_run.proofs.Listed.{held, held_is, is_held}
 use Rattle.vcpu_run.proofs.PlainAreLaid.{none_laid}
 use Rattle.vcpu_run.proofs.PlainOwed.{owes_none}
 use Rattle.vcpu_run.proofs.PlainReplayed.{replayed_more}
-use Rattle.vcpu_run.proofs.PlainScripted.{anew_at, ended_other, ended_own, granted_more, noted_at, notes_none, owed_at, pair_then}
+use Rattle.vcpu_run.proofs.PlainScripted.{anew_at, ended_other, ended_own, granted_more, noted_at, notes_none, owed_at, pair_then, rights_at}
 use Rattle.vcpu_run.proofs.PlainTellings.{driven_tell}
 use Rattle.vcpu_run.proofs.SeatPairs.{after_of, before_of}
 
@@ -169,6 +169,7 @@ fails_waits old new script line found failing are driven all gives granted u k u
   anew = anew_at k old new one.before one.after one.now.later one.there one.here (failed_asks granted unit one.before one.after one.now);
   noted = noted_at k old new one.before one.after one.there one.here (notes_none one.before one.after one.now.answers);
   keeps = keep_gives old new gives;
+  rights = rights_at k old new one.before one.after one.there one.here one.now.rights;
   stands = is_held (StandsPlainly granted u script) (slice_get new k) one.after one.here (stands one.now.left);
 }
   where
@@ -240,6 +241,7 @@ fails_ends old new script done line row found failing are driven all gives shut 
   anew = anew_at k old new one.before one.after one.now.later one.there one.here (failed_asks granted unit one.before one.after one.now);
   noted = noted_at k old new one.before one.after one.there one.here (notes_none one.before one.after one.now.answers);
   keeps = keep_gives old new gives;
+  rights = rights_at k old new one.before one.after one.there one.here one.now.rights;
   stands = is_held (StandsPlainly granted u done) (slice_get new k) one.after one.here (record {
     replayed = subst (λ n. IsReplayed granted n before_lines (ended_by u done.lines.now done.logs.items)) (sym one.pages) said.replayed;
     stands = subst (λ (o : Option Line). StandsAt granted u o done.progress (after_ended granted (length one.after.window.pages) before_lines (ended_by u done.lines.now done.logs.items)) one.after)

@@ -22,6 +22,7 @@ use Rattle.vcpu_run.specs.PlainSteps.{WasFailed, Own, beside, own_of}
 use Rattle.vcpu_run.specs.PlainTalk.{ServerStays, TalksPlainly, TookNoMore}
 use Rattle.vcpu_run.specs.declared.driver.Driver.{Driver}
 use Rattle.vcpu_run.specs.declared.pair.Pair.{Pair}
+use Rattle.vcpu_run.proofs.PlainRights.{rights_same}
 use Rattle.vcpu_run.proofs.PlainFails.{fails_free, fails_shut}
 use Rattle.vcpu_run.proofs.PlainPaired.{took_on}
 use Rattle.vcpu_run.proofs.PlainSeated.{driver_behind, driver_of, pair_is, pair_was, server_stays, talks_at}
@@ -86,11 +87,11 @@ fails_through a b x y old new is = record { so = λ granted unit server server' 
 
 -- ---- at its pair
 
-pair_fails : (f g : Bool) (x y : List GName) (lent : PlainLink) (old new : Pair) → lent ≡ old.link → f ≡ false → g ≡ false → Drives old new
+pair_fails : (f g : Bool) (x y : List GName) (lent : PlainLink) (old new : Pair) → lent ≡ old.link → f ≡ false → g ≡ false → Drives old new → new.window ≡ old.window
     → ((a : Driver) → old.driver ≡ Some a → (b : Driver) × (new.driver ≡ Some b) × (b.answers.items ≡ a.answers.items)
     × FailsAt (own_of a (end_of x lent f) (known_of old.window)) (own_of b (end_of y new.link g) (known_of new.window)))
     → PairFailsPlainly old new
-pair_fails f g x y lent old new same first next drives step granted unit words talks may =
+pair_fails f g x y lent old new same first next drives window step granted unit words talks may =
     let (a, was, talk) = driver_of (λ driver. TalksPlainly granted (between_of unit driver old) words) old.driver talks in
     let (b, there, answers, is) = step a was in
     let fails : FailsAt (own_in a old) (own_in b new) =
@@ -107,6 +108,7 @@ pair_fails f g x y lent old new same first next drives step granted unit words t
       rows = ap rows_in there ∙ (rows ∙ sym (ap rows_in was));
       answers = ap answers_in there ∙ (answers ∙ sym (ap answers_in was));
       left = inr (pair_is WasFailed new b there (λ other. failed_through [] unit other (end_of [] new.link true) (end_of [] new.link true) (own_in b new) failed));
+      rights = rights_same (known_of old.window) (known_of new.window) (ap (λ (w : WindowValue). (known_of w).values) window);
     }
   where
     here : (a : Driver) → old.driver ≡ Some a → (unit : Unit) (words : List Word) → ((words ≡ []) × ((side_of old.link false).registered ≡ true)) ⊎ PairIs WasFailed old
@@ -120,7 +122,7 @@ pub pair_freed : (f g : Bool) (x y : List GName) (lent link : PlainLink) (room :
     → OnDrivers old.driver new.driver (λ a b. b.answers.items ≡ a.answers.items) → OnlyReserves (end_of x lent f) room
     → Frees false room partner_failed (end_of y link g) → OnlyFrees false room (end_of y link g) → PairFailsPlainly old new
 pair_freed f g x y lent link room old new same first next drives linked window told noted ready frees rest =
-    pair_fails f g x y lent old new same first next drives
+    pair_fails f g x y lent old new same first next drives window
     (λ a was. let b = driver_behind (λ a b. (b.client ≡ unlinked a.client) × (b.answers.items ≡ a.answers.items)) old.driver new.driver a was (both old.driver new.driver told noted) in (
       b.0,
       b.1,
@@ -142,7 +144,7 @@ pub pair_shut : (f g : Bool) (x y : List GName) (lent : PlainLink) (room : EndSt
     → new.window ≡ old.window → new.driver ≡ old.driver → OnlyReserves (end_of x lent f) room → OnlyReserves room (end_of y new.link g) → room.registered ≡ false
     → PairFailsPlainly old new
 pair_shut f g x y lent room old new same first next drives window driver ready refused off =
-    pair_fails f g x y lent old new same first next drives (λ a was. (
+    pair_fails f g x y lent old new same first next drives window (λ a was. (
       a,
       driver ∙ was,
       refl,

@@ -7,7 +7,7 @@ use Rattle.crq_session.specs.Answered.{Frees}
 use Rattle.crq_session.specs.EndState.{EndPlace, EndState, OnlyFrees, OnlyReserves, OnlyTakes}
 use Rattle.srp_iu.specs.declared.unit.Iu.{Iu}
 use Rattle.tce_window.specs.PortState.{OnlyReads, PortState}
-use Rattle.block_server.specs.Talk.{SayWords, Word, to_come}
+use Rattle.block_server.specs.Talk.{Word, to_come}
 use Rattle.block_server.specs.Talk.Word.{gone}
 use Rattle.block_server.specs.declared.unit.Unit.{Unit}
 use Rattle.vscsi_client.specs.Slots.{is_event}
@@ -19,7 +19,7 @@ use Rattle.vscsi_client.specs.declared.answers.Taken.TheVariants.{Again, Answer,
 use Rattle.vscsi_client.specs.declared.outgoing.Outgoing.{Outgoing}
 use Rattle.vcpu_run.specs.PlainNoted.{AreLaid}
 use Rattle.vcpu_run.specs.PlainSteps.{WasFailed}
-use Rattle.vcpu_run.specs.PlainTalk.{AreStale, Ask, Between, HasAnswer, HaveAnswers, HearsOfGone, InPhase, IsAway, IsCalm, IsOwnWindow, IsVacant, ServerStays, TalksPlainly, client_ports}
+use Rattle.vcpu_run.specs.PlainTalk.{AreSaidThere, AreStale, Ask, Between, HasAnswer, HaveAnswers, HearsOfGone, InPhase, IsAway, IsCalm, IsOwnWindow, IsVacant, ServerStays, TalksPlainly, client_ports}
 use Rattle.vcpu_run.proofs.LinesShown.{behind_first, contains_first}
 use Rattle.vcpu_run.proofs.PlainAreLaid.{IsTakenLaid, laid_fewer, laid_read, laid_same, none_laid, takes_laid, talk_laid, without_fewer}
 use Rattle.vcpu_run.proofs.PlainReady.{all_front}
@@ -230,9 +230,9 @@ calm_same granted at at' words calm stays sent slots window = record {
   server_slots = subst (λ n. 256 ≤ n) (sym stays.slots) calm.server_slots;
   own_slots = subst (λ n. 256 ≤ n) (sym slots) calm.own_slots;
   usable = subst IsOwnWindow (sym window) calm.usable;
-  said = subst (λ (entries : List Entry). SayWords at'.window entries words)
+  said = subst (λ (entries : List Entry). AreSaidThere at'.window entries words)
       (sym (come_kept at.server at'.server (stays.ends.own_sees.received ∙ sent ∙ sym calm.ends.own_sees.received) stays.session stays.taken))
-      (subst (λ (w : PortState). SayWords w (to_come at.server) words) (sym window) calm.said);
+      (subst (λ (w : PortState). AreSaidThere w (to_come at.server) words) (sym window) calm.said);
 }
 
 pub fails_shut : (granted : ℕ) (at at' : Between) (words : List Word) (room : EndState) → TalksPlainly granted at words → OnlyReserves at.own room → OnlyReserves room at'.own

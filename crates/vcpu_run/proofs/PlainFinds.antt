@@ -9,7 +9,6 @@ use Rattle.srp_iu.specs.declared.login.LoginRsp.{LoginRsp}
 use Rattle.srp_iu.specs.declared.unit.Iu.{Iu}
 use Rattle.srp_iu.specs.declared.unit.Iu.TheVariants as units
 use Rattle.tce_window.specs.PortState.{PortState}
-use Rattle.block_server.specs.Talk.{StandAt}
 use Rattle.vscsi_client.specs.Login.{Finds, IsToOthers, SaysIn, SaysOf, is_kept, login_slot}
 use Rattle.vscsi_client.specs.Slots.{Holds, HoldsNone}
 use Rattle.vscsi_client.specs.State.{ClientState}
@@ -18,7 +17,7 @@ use Rattle.vscsi_client.specs.Units.{slot_address}
 use Rattle.vscsi_client.specs.declared.TheConstants.{SLOTS}
 use Rattle.vscsi_client.specs.declared.found.Found.{Found}
 use Rattle.vscsi_client.specs.declared.found.Found.TheVariants.{Answer, Granted, InUse, Lost, Nothing, Rejected, Step}
-use Rattle.vcpu_run.specs.PlainTalk.{IsOwnWindow}
+use Rattle.vcpu_run.specs.PlainTalk.{IsOwnWindow, ShowsAt}
 use Rattle.vcpu_run.proofs.PlainJudged.{entry_first, page_there, slot_read}
 use Rattle.vcpu_run.proofs.PlainSlots.{entry_srp}
 
@@ -95,7 +94,7 @@ pub record HoldsUnit (window : PortState) (slot : ℕ) (iu : Iu) : Type 0 where
   pub own : IsOwnWindow window
   pub within : slot ≤ SLOTS
   pub bytes : List ℕ
-  pub stand : StandAt window (slot_address slot) bytes
+  pub stand : ShowsAt window (slot_address slot) bytes
   pub whole : length bytes ≡ 256
   pub spelled : Spells bytes iu
 

@@ -12,7 +12,7 @@ use Rattle.srp_iu.specs.declared.unit.Iu.{Iu}
 use Rattle.srp_iu.specs.declared.unit.Iu.TheVariants as units
 use Rattle.srp_iu.proofs.GrammarLaws.{spelled_bytes_are_accepted}
 use Rattle.tce_window.specs.PortState.{FindsInUse, PortState, Reads}
-use Rattle.block_server.specs.Talk.{StandAt, tag_asked}
+use Rattle.block_server.specs.Talk.{tag_asked}
 use Rattle.vscsi_client.specs.Slots.{AreIn, Holds, HoldsNone, IsSlotInUse, is_event}
 use Rattle.vscsi_client.specs.Taking.{HoldsNoAnswer, IsNoAnswer, Judges, slot_of}
 use Rattle.vscsi_client.specs.Units.{slot_address}
@@ -20,20 +20,18 @@ use Rattle.vscsi_client.specs.declared.TheConstants.{SLOTS}
 use Rattle.vscsi_client.specs.declared.answers.Taken.{Taken}
 use Rattle.vscsi_client.specs.declared.answers.Taken.TheVariants.{Again, Answer, Empty, Lost, Other, Stray}
 use Rattle.vscsi_client.specs.declared.outgoing.Outgoing.{Outgoing}
-use Rattle.vcpu_run.specs.PlainTalk.{IsAnswerTo, IsOwnWindow, is_counted}
-use Rattle.vcpu_run.proofs.PlainPages.{shown}
+use Rattle.vcpu_run.specs.PlainTalk.{IsAnswerTo, IsOwnWindow, ShowsAt, is_counted, shown}
 use Rattle.vcpu_run.proofs.PlainSlots.{entry_srp, slot_on}
-use Rattle.vcpu_run.proofs.PlainStands.{region_shown, stand_shown}
+use Rattle.vcpu_run.proofs.PlainStands.{region_shown}
 
 -- ---- what a slot holds
 
--- 256 bytes that are read in a slot are those that stand there
-pub slot_read : (window : PortState) → IsOwnWindow window → (slot : ℕ) → slot ≤ SLOTS → (bytes read : List ℕ) → length bytes ≡ 256 → StandAt window (slot_address slot) bytes
+-- 256 bytes that the client reads in a slot are those that show there
+pub slot_read : (window : PortState) → IsOwnWindow window → (slot : ℕ) → slot ≤ SLOTS → (bytes read : List ℕ) → length bytes ≡ 256 → ShowsAt window (slot_address slot) bytes
     → AreIn window slot read → read ≡ bytes
-slot_read window own slot within bytes read whole stand are =
+slot_read window own slot within bytes read whole shows are =
     region_shown window own (slot_address slot) read (slot_on window own slot (length read) within (omega (arith, are.long)) (omega (arith, are.long))) are.read
-    ∙ ap (λ (n : ℕ). shown window (slot_address slot) n) (are.long ∙ sym whole)
-    ∙ stand_shown window own (slot_address slot) bytes (slot_on window own slot (length bytes) within (omega (arith, whole)) (omega (arith, whole))) stand
+    ∙ ap (λ (n : ℕ). shown window (slot_address slot) n) (are.long ∙ sym whole) ∙ shows
 
 pub spelled_tag : (bytes : List ℕ) (r : Rsp) (iu : Iu) → Spells bytes (units.Rsp r) → Spells bytes iu → (other : Rsp) × (iu ≡ units.Rsp other) × (other.tag ≡ r.tag)
 spelled_tag bytes r (units.Rsp other) is also = (other, refl, also.unit.tag ∙ sym is.unit.tag)
@@ -52,7 +50,7 @@ pub record HoldsResponse (window : PortState) (tag slot : ℕ) : Type 0 where
   pub own : IsOwnWindow window
   pub within : slot ≤ SLOTS
   pub bytes : List ℕ
-  pub stand : StandAt window (slot_address slot) bytes
+  pub stand : ShowsAt window (slot_address slot) bytes
   pub whole : length bytes ≡ 256
   pub response : Rsp
   pub spelled : Spells bytes (units.Rsp response)

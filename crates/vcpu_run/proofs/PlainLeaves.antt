@@ -5,7 +5,7 @@ use Rattle.page_slots.specs.Stroke.{StrokeValue}
 use Rattle.tce_window.specs.PortState.{PortState}
 use Rattle.block_server.specs.Ranges.{AddsEach, LaysWithin, StrokeLiesInOne, MayWrite, known_in}
 use Rattle.block_server.specs.Standing.{stood}
-use Rattle.block_server.specs.Talk.{StandAt, Suits}
+use Rattle.block_server.specs.Talk.{Suits}
 use Rattle.block_server.specs.declared.request.Order.{Order}
 use Rattle.block_server.specs.declared.request.Order.TheVariants as orders
 use Rattle.block_server.specs.declared.request.Request.{Request}
@@ -13,10 +13,10 @@ use Rattle.block_server.specs.declared.service.Outcome.{Outcome}
 use Rattle.block_server.specs.declared.service.Outcome.TheVariants as outcomes
 use Rattle.vscsi_client.specs.Units.{slot_address}
 use Rattle.vscsi_client.specs.declared.TheConstants.{DATA_START, SLOTS}
-use Rattle.vcpu_run.specs.PlainTalk.{Ask, GoesBehind, IsAsk, IsOwnEntry, IsOwnWindow, IsPendingAs, KeepsSlots, is_grant}
-use Rattle.vcpu_run.proofs.PlainPages.{IsApart, shown, shown_apart, shown_on}
+use Rattle.vcpu_run.specs.PlainTalk.{Ask, GoesBehind, IsAsk, IsOwnEntry, IsOwnWindow, IsPendingAs, KeepsSlots, ShowsAt, is_grant, shown, shown_on}
+use Rattle.vcpu_run.proofs.PlainPages.{IsApart, shown_apart}
 use Rattle.vcpu_run.proofs.PlainSlots.{behind_apart, slot_on, slots_apart}
-use Rattle.vcpu_run.proofs.PlainStands.{IsOnPage, shown_stand, stand_shown}
+use Rattle.vcpu_run.proofs.PlainStands.{IsOnPage}
 use Rattle.vcpu_run.proofs.PlainStays.{Apart, lies_apart}
 use Rattle.vcpu_run.proofs.PlainRejected.{adds_stay}
 
@@ -63,14 +63,12 @@ lays_keep old new request ask own place pending is_ask behind lays = record { sl
         subst (λ from. Apart from n (slot_address slot) 256) (sym (answer.0 ∙ pending.address)) (slots_apart ask.slot slot n (λ same. differs (sym same)) answer.1)
     by slot within differs a n (inr data') = behind_apart a n slot within (behind a n data')
 
-    stood' : (slot : ℕ) (bytes : List ℕ) → slot ≤ SLOTS → slot ≢ ask.slot → length bytes ≡ 256 → StandAt old (slot_address slot) bytes → StandAt new (slot_address slot) bytes
-    stood' slot bytes within differs whole stand =
+    stood' : (slot : ℕ) (bytes : List ℕ) → slot ≤ SLOTS → slot ≢ ask.slot → length bytes ≡ 256 → ShowsAt old (slot_address slot) bytes → ShowsAt new (slot_address slot) bytes
+    stood' slot bytes within differs whole shows =
         let on : IsOnPage old (slot_address slot) (length bytes) = slot_on old own slot (length bytes) within (omega (arith, whole)) (omega (arith, whole)) in
-        let own' : IsOwnWindow new = lays_own (MayWrite (stood old) request) old new own place lays in
-        shown_stand new own' (slot_address slot) bytes (slot_on new own' slot (length bytes) within (omega (arith, whole)) (omega (arith, whole)))
-        (lays_apart (MayWrite (stood old) request) old new (slot_address slot) (length bytes) own lays on.fits
+        lays_apart (MayWrite (stood old) request) old new (slot_address slot) (length bytes) own lays on.fits
         (λ a n range. subst (λ m. Apart a n (slot_address slot) m) (sym whole) (by slot within differs a n range))
-        ∙ stand_shown old own (slot_address slot) bytes on stand)
+        ∙ shows
 
 -- ---- what stands where a request was answered
 

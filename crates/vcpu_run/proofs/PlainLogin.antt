@@ -42,7 +42,7 @@ pub login_says : (granted line : ℕ) (at at' : Between) (asked : AskedParts) (a
     → TalksPlainly granted at' (word_of (record { tag = next_tag at.client; slot = wrote.slot; iu = units.LoginReq (login_request at.client.id at.client.server (next_tag at.client)); bytes = wrote.bytes; pages = no_pages; table = no_pages; start = 0 }) ∷ [])
 login_says granted line at at' asked answers mid answer calm talk tabled idle fair wrote puts stays = record {
   calm = calm_asks granted at at' (srp_entry (length wrote.bytes) (slot_address wrote.slot)) (word_of ask) calm put
-      (unit_said at'.window ask unit.own is_ask unit.stands);
+      (unit_said at'.window ask is_ask unit.stands);
   phase = inr (inr (record { answered = asked.answered; pending = asked.pending; coming = ask ∷ [] }, answers, logs_in granted at at' asked answers ask talk sends));
   tabled = ap (λ (s : ClientState). s.tabled) client ∙ ap (λ (s : ClientState). s.tabled) wrote.client ∙ tabled;
 }

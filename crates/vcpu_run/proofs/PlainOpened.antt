@@ -11,7 +11,7 @@ use Rattle.tce_window.specs.PlainPort.{known_of}
 use Rattle.tce_window.specs.Window.{WindowValue, blank_page, strokes_at}
 use Rattle.vscsi_client.specs.State.{new_client}
 use Rattle.vcpu_run.specs.PlainPairs.{IsOpened}
-use Rattle.vcpu_run.specs.PlainTalk.{AreEnds, IsOwnEntry, IsOwnWindow, TookNoMore}
+use Rattle.vcpu_run.specs.PlainTalk.{AreEnds, HasRights, IsOwnEntry, IsOwnWindow, TookNoMore}
 use Rattle.vcpu_run.specs.declared.driver.Driver.{Driver}
 use Rattle.vcpu_run.specs.declared.pair.Pair.{Pair}
 use Rattle.vcpu_run.proofs.Opened.{first_value, new_window, size_new}
@@ -36,7 +36,6 @@ blank_at (suc n) (suc p) list is = blank_at n p list is
 own_first : (e : ℕ) → IsOwnEntry e ((4096 * e + 3) ∷ [])
 own_first e = record {
   names = λ version value is. omega (arith, only version value is);
-  usable = λ front. ([], refl);
 }
   where
     only : (version value : ℕ) → slice_get ((4096 * e + 3) ∷ []) version ≡ Some value → value ≡ 4096 * e + 3
@@ -53,6 +52,10 @@ own_new unit pages window new least most =
       there = λ p less.
           subst (λ (w : WindowValue). IsSome (strokes_at w.pages p)) (sym new) (blank_there pages p (omega (arith, size, less)));
     }
+
+-- each entry has its first value alone
+rights_new : (unit : UnitId) (pages : ℕ) (window : WindowValue) → window ≡ new_window unit pages → HasRights (known_of window)
+rights_new unit pages window new = record { last = λ e front. ([], ap (λ (w : WindowValue). (known_of w).values e) new ∙ first_value e) }
 
 -- ---- the link
 
@@ -87,6 +90,7 @@ opened_new pair driver unit server pages queue_a queue_b new some_a some_b windo
   server_slots = omega (arith, new.first.queue.slots, some_a);
   own_slots = omega (arith, new.second.queue.slots, some_b);
   usable = own_new unit pages pair.window window least most;
+  rights = rights_new unit pages pair.window window;
   unit = ap (λ (w : WindowValue). w.unit) window ∙ sym unit_is;
   blank = λ page list is. blank_at pages page list (sym (ap (λ (w : WindowValue). strokes_at w.pages page) window) ∙ is);
 }

@@ -20,7 +20,6 @@ use Rattle.vscsi_client.specs.declared.outgoing.Span.{Span}
 use Rattle.vscsi_client.specs.declared.table.Table.{Table}
 use Rattle.vcpu_run.specs.PlainTalk.{IsOwnWindow, KeepsTables}
 use Rattle.vcpu_run.proofs.PlainData.{data_kept, span_data}
-use Rattle.vcpu_run.proofs.PlainPages.{shown_on}
 use Rattle.vcpu_run.proofs.PlainPieces.{table_long}
 use Rattle.vcpu_run.proofs.PlainPuts.{both_true}
 use Rattle.vcpu_run.proofs.PlainStands.{byte_shown}

@@ -5,7 +5,7 @@ use Rattle.std.proofs.lemmas.List.Elements.{All-head, All-tail}
 use Rattle.page_slots.specs.Page.{left_by, overwritten, replaced, zeros}
 use Rattle.page_slots.specs.Stroke.{StrokeValue}
 use Rattle.page_slots.proofs.Laws.{left_by-push, length-zeros}
-use Rattle.tce_window.specs.PortState.{PortState}
+use Rattle.vcpu_run.specs.PlainTalk.{shown_on}
 
 -- ---- pages
 
@@ -89,14 +89,6 @@ fold_more page [] ys = refl
 fold_more page (x ∷ xs) ys = fold_more (overwritten page x) xs ys
 
 -- ---- what a window shows
-
--- so many bytes of a page from a place on, and of a window from an address on, as all strokes left them
-abbrev pub shown_on : Option (List StrokeValue) → (start count : ℕ) → List ℕ
-shown_on (Some strokes) start count = take count (drop start (left_by strokes))
-shown_on None start count = []
-
-abbrev pub shown : PortState → (address len : ℕ) → List ℕ
-shown window address len = shown_on (window.strokes (address / 4096)) (address % 4096) len
 
 pub shown_long : (strokes : Option (List StrokeValue)) (start count : ℕ) → IsSome strokes → start + count ≤ 4096 → length (shown_on strokes start count) ≡ count
 shown_long None start count there inside = absurd (cc (there))

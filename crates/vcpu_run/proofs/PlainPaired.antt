@@ -28,7 +28,7 @@ use Rattle.block_server.specs.Receipts.{LinesMore, unit_of}
 use Rattle.block_server.specs.Standing.{LeavesOn, stood}
 use Rattle.block_server.specs.Answering.{OnlyRowsOf}
 use Rattle.block_server.specs.RowsOn.{AddsFor, RowsOn}
-use Rattle.block_server.specs.Talk.{HearsAll, IsLoss, IsNewThere, IsTurnReady, Reach, SayWords, ServesNext, Talk, TalksOn, UnitOpensOn, UnitTalksOn, Word, reach, settled_lines, talk_of}
+use Rattle.block_server.specs.Talk.{HearsAll, IsLoss, IsNewThere, IsTurnReady, Reach, ServesNext, Talk, TalksOn, UnitOpensOn, UnitTalksOn, Word, reach, settled_lines, talk_of}
 use Rattle.block_server.specs.Turns.{IsStill, UnderWay, under_way, way_of}
 use Rattle.block_server.specs.declared.logins.Logins.{Logins}
 use Rattle.block_server.specs.declared.request.Request.{Request}
@@ -45,7 +45,7 @@ use Rattle.vcpu_run.specs.PlainClients.{ends_by_client, grants_of, granted_in}
 use Rattle.vcpu_run.specs.PlainNoted.{AreAnswers, AreAskedFor, IsLaidAnswer}
 use Rattle.vcpu_run.specs.PlainPairs.{EndByClient, IsIdleUnit, IsNewPair, IsPlainPair, IsReadyPair, ServerBooks, SparesUnit, between_of}
 use Rattle.vcpu_run.specs.PlainRows.{TagsKept, tags_by, AnswersKept, EntriesKept}
-use Rattle.vcpu_run.specs.PlainTalk.{Between, ClientStays, IsCalm, IsOwnWindow, TalksPlainly, TookNoMore, owes}
+use Rattle.vcpu_run.specs.PlainTalk.{AreSaidThere, Between, ClientStays, HasRights, IsCalm, IsOwnWindow, TalksPlainly, TookNoMore, owes}
 use Rattle.vcpu_run.proofs.PlainAnswered.{plainly_served}
 use Rattle.vcpu_run.proofs.PlainAnswers.{answers_served}
 use Rattle.vcpu_run.proofs.PlainBegins.{starts_plainly}
@@ -59,9 +59,10 @@ use Rattle.vcpu_run.proofs.PlainReady.{talk_ready}
 use Rattle.vcpu_run.proofs.PlainRejected.{StrokesStay}
 use Rattle.vcpu_run.proofs.PlainSizes.{sizes_served}
 use Rattle.vcpu_run.proofs.PlainTags.{rows_spared, tags_new, tags_next}
-use Rattle.vcpu_run.proofs.PlainTurned.{lent_at, own_behind, talks_lent}
+use Rattle.vcpu_run.proofs.PlainTurned.{lent_at, own_behind, rights_behind, talks_lent}
 use Rattle.vcpu_run.proofs.PlainTurns.{Turns}
 use Rattle.vcpu_run.specs.Credited.{Ended}
+use Rattle.vcpu_run.proofs.PlainRights.{rights_same}
 use Rattle.vcpu_run.proofs.PlainTellings.{lines_move, serve_stays}
 use Rattle.unit_region.specs.RegionLines.{IsOn}
 
@@ -254,16 +255,17 @@ served_plain : (granted : ℕ) (told : List Ended) (home k many : ℕ) (name : U
 served_plain granted told home k many name books books' a b old new words called driver more turns plain =
     let at : Between = lent_at a [] (between_of plain.unit plain.driver old) in
     let talks : TalksPlainly granted at words = talks_lent a [] granted (between_of plain.unit plain.driver old) words plain.talks in
-    let ready = talk_ready granted at words talks in
+    let ready = talk_ready granted at words plain.rights talks in
     let on = turns.talks words plain.unit plain.there ready in
     let at' : Between = lent_at b [] (between_of on.unit' plain.driver new) in
     let turn : Turns at at' books.lines books'.lines words = on.talks in
     let wrote = turns.places words plain.unit plain.there ready in
     let own : IsOwnWindow at'.window = own_behind at at' books.lines books'.lines words turn talks.calm.usable turns.window_place wrote in
+    let rights : HasRights at'.window = rights_behind at at' books.lines books'.lines words turn wrote plain.rights in
     let stays = client_stays a b plain.unit on.unit' plain.driver old new turns.place turns.partner turns.put turns.took talks.calm.ends.own_took own in
     let id : at'.unit.id ≡ at.unit.id = turns.ids plain.unit on.unit' plain.there on.there in
     let after : TalksPlainly granted at' [] =
-    plainly_served granted at at' books.lines books'.lines books.rows books'.rows name words talks turn stays id (called ∙ sym (id ∙ plain.id))
+    plainly_served granted at at' books.lines books'.lines books.rows books'.rows name words talks turn stays rights id (called ∙ sym (id ∙ plain.id))
     (λ e. plain.apart (e ∙ id ∙ plain.id)) turns.window_place wrote
     (turns.leaves words plain.unit plain.there ready) in
     let tags : TagsKept (tags_by (server_id home k) books'.rows) (length plain.driver.client.rows) on.unit'.pending.items =
@@ -282,6 +284,7 @@ served_plain granted told home k many name books books' a b old new words called
       driver = plain.driver;
       driver_is = driver ∙ plain.driver_is;
       talks = talks_lent [] [] granted at' [] after;
+      rights = rights;
       laid = lines_move at.unit.id at'.unit.id at.window.strokes at'.window.strokes id (serve_stays at at' books.lines books'.lines words turn wrote) told plain.laid;
       owed = owed_behind (server_id home k) (granted_in told) many at at' books.lines books'.lines words refl stays.registered turn more plain.owed;
       lines = end_more (server_id home k) books.lines books'.lines (turn_ends at at' books.lines books'.lines words turn) plain.lines;
@@ -324,7 +327,7 @@ opened_pair granted told home k name books books' a b old new driver turns is =
       server_slots = subst (λ n. 256 ≤ n) (sym (ap (λ (p : EndPlace). p.own_slots) turns.place)) is.new.server_slots;
       own_slots = subst (λ n. 256 ≤ n) (sym stays.slots) is.new.own_slots;
       usable = own;
-      said = subst (λ (entries : List Entry). SayWords at'.window entries []) (sym opens.none) tt;
+      said = subst (λ (entries : List Entry). AreSaidThere at'.window entries []) (sym opens.none) tt;
     } in
     record {
       unit = on.unit';
@@ -338,6 +341,7 @@ opened_pair granted told home k name books books' a b old new driver turns is =
             taking = ap (λ (l : Logins). l.taking) opens.logins ∙ made.made.taking;
             pending = opens.pending;
           }));
+      rights = rights_same at.window at'.window (ap (λ (port : PortState). port.values) opens.window) is.rights;
       laid = lines_move is.unit.id on.unit'.id at.window.strokes at'.window.strokes opens.id
           (λ page stroke there. subst (λ (port : PortState). IsOn stroke (port.strokes page)) (sym opens.window) there) told is.laid;
       owed =
@@ -420,7 +424,7 @@ pub idles_pair : (granted : ℕ) (told : List Ended) (home k : ℕ) (name : Unit
 idles_pair granted told home k name books books' a b old new turns still way (inl (words, plain)) =
     let at : Between = lent_at a [] (between_of plain.unit plain.driver old) in
     let talks : TalksPlainly granted at words = talks_lent a [] granted (between_of plain.unit plain.driver old) words plain.talks in
-    let on = turns.talks words plain.unit plain.there (talk_ready granted at words talks) in
+    let on = turns.talks words plain.unit plain.there (talk_ready granted at words plain.rights talks) in
     let same : on.unit'.pending.items ≡ plain.unit.pending.items =
     same_way plain.unit on.unit' (sym (way_at books'.units k on.unit' on.there) ∙ (way ∙ way_at books.units k plain.unit plain.there)) in
     subst (λ (o : Option Unit). IsSomeAnd o (λ unit. unit.pending.items ≡ [])) (sym on.there)

@@ -17,6 +17,7 @@ use Rattle.vcpu_run.specs.PlainScripts.{PairTalksOn}
 use Rattle.vcpu_run.specs.PlainTalk.{InPhase, IsOwnWindow, TalksPlainly, TookNoMore, awaited}
 use Rattle.vcpu_run.specs.declared.driver.Driver.{Driver}
 use Rattle.vcpu_run.specs.declared.pair.Pair.{Pair}
+use Rattle.vcpu_run.proofs.PlainRights.{rights_same}
 use Rattle.vcpu_run.proofs.PlainData.{data_kept}
 use Rattle.vcpu_run.proofs.PlainPaired.{idle_side, took_on}
 use Rattle.vcpu_run.proofs.PlainPuts.{LeavesWindow}
@@ -105,6 +106,7 @@ talks_pushed f g x y lent old new same first next drives driver window stands gr
     let known : known_of new.window ≡ known_of old.window = ap (λ (w : WindowValue). known_of w) window in (
       talks_at granted unit [] new a (driver ∙ was) (talks_stand granted unit a old new drives window (unlent x y old new still) talk),
       failed_still old new driver still.registered (ap (λ (port : PortState). port.place) known) (λ page. ap (λ (port : PortState). port.strokes page) known),
+      rights_same (known_of old.window) (known_of new.window) (ap (λ (port : PortState). port.values) known),
     )
   where
     unlent : (x y : List GName) (old new : Pair) → StandsAt (end_of x old.link false) (end_of y new.link false) → StandsAt (end_of [] old.link false) (end_of [] new.link false)

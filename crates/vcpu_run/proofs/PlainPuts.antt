@@ -18,8 +18,7 @@ use Rattle.vscsi_client.specs.Units.{slot_address, table_bytes}
 use Rattle.vscsi_client.specs.declared.TheConstants.{DATA_START, SLOTS}
 use Rattle.vscsi_client.specs.declared.op.Op.{Op}
 use Rattle.vscsi_client.specs.declared.table.Table.{Table}
-use Rattle.vcpu_run.specs.PlainTalk.{AreEnds, Between, IsOwnWindow, KeepsSlots, ServerStays}
-use Rattle.vcpu_run.proofs.PlainPages.{shown}
+use Rattle.vcpu_run.specs.PlainTalk.{AreEnds, Between, IsOwnWindow, KeepsSlots, ServerStays, shown}
 use Rattle.vcpu_run.proofs.PlainSays.{EntryPut}
 use Rattle.vcpu_run.proofs.PlainSent.{StaysElse}
 use Rattle.vcpu_run.proofs.PlainSlots.{behind_apart, keeps_on, keeps_same, slot_on, slots_apart, write_keeps}

@@ -22,7 +22,8 @@ use Rattle.vscsi_client.specs.declared.TheConstants.{SLOTS}
 use Rattle.vscsi_client.specs.declared.outgoing.Outgoing.{Outgoing}
 use Rattle.vscsi_client.specs.declared.stage.Stage.{Stage}
 use Rattle.vscsi_client.specs.declared.stage.Stage.TheVariants.{Idle, Sent, Written}
-use Rattle.vcpu_run.specs.PlainTalk.{AreEnds, AreInOrder, ArePending, AreStale, Ask, AskedParts, Between, HaveAnswers, HearsOfClient, HearsOfGone, InPhase, IsAsk, IsAway, IsBeginning, IsCalm, IsOwnWindow, IsTalking, TalksPlainly, all_asked, awaited, is_logout, login_name, name_of, names_of, word_of, TookNoMore}
+use Rattle.vcpu_run.specs.PlainTalk.{AreEnds, AreInOrder, ArePending, AreStale, Ask, AskedParts, Between, HasRights, HaveAnswers, HearsOfClient, HearsOfGone, InPhase, IsAsk, IsAway, IsBeginning, IsCalm, IsOwnWindow, IsTalking, TalksPlainly, all_asked, awaited, is_logout, login_name, name_of, names_of, word_of, TookNoMore}
+use Rattle.vcpu_run.proofs.PlainSlots.{words_said}
 use Rattle.vcpu_run.proofs.PlainStands.{slot_usable}
 
 -- ---- numbers
@@ -100,24 +101,24 @@ abbrev MayWriteOver : PortState → Word → Type 0
 MayWriteOver window (asks address bytes iu) = MayWriteAnswer window address
 MayWriteOver window word = ⊤
 
-pub slot_may : (window : PortState) (address slot : ℕ) → IsOwnWindow window → slot ≤ SLOTS → address ≡ slot_address slot → MayWriteAnswer window address
-slot_may window address slot usable within is = subst (MayWriteAnswer window) (sym is) (slot_usable window usable Write slot within)
+pub slot_may : (window : PortState) (address slot : ℕ) → IsOwnWindow window → HasRights window → slot ≤ SLOTS → address ≡ slot_address slot → MayWriteAnswer window address
+slot_may window address slot own rights within is = subst (MayWriteAnswer window) (sym is) (slot_usable window own rights Write slot within)
 
-stale_may : (window : PortState) → IsOwnWindow window → (requests : List Request) → All (λ request. (slot : ℕ) × (slot ≤ SLOTS) × (request.address ≡ slot_address slot)) requests
+stale_may : (window : PortState) → IsOwnWindow window → HasRights window → (requests : List Request) → All (λ request. (slot : ℕ) × (slot ≤ SLOTS) × (request.address ≡ slot_address slot)) requests
     → AreMay window requests
-stale_may window usable requests are =
+stale_may window own rights requests are =
     All-weaker (λ (request : Request). (slot : ℕ) × (slot ≤ SLOTS) × (request.address ≡ slot_address slot)) (λ (request : Request). MayWriteAnswer window request.address)
-    (λ request is. slot_may window request.address is.0 usable is.1 is.2) requests are
+    (λ request is. slot_may window request.address is.0 own rights is.1 is.2) requests are
 
-pending_may : (window : PortState) → IsOwnWindow window → (requests : List Request) (more : List Ask) → ArePending requests more → All IsAsk more
+pending_may : (window : PortState) → IsOwnWindow window → HasRights window → (requests : List Request) (more : List Ask) → ArePending requests more → All IsAsk more
     → AreMay window requests
-pending_may window usable [] [] are each = All-nil (λ (request : Request). MayWriteAnswer window request.address)
-pending_may window usable [] (ask ∷ more) are each = absurd are
-pending_may window usable (request ∷ requests) [] are each = absurd are
-pending_may window usable (request ∷ requests) (ask ∷ more) are each =
+pending_may window own rights [] [] are each = All-nil (λ (request : Request). MayWriteAnswer window request.address)
+pending_may window own rights [] (ask ∷ more) are each = absurd are
+pending_may window own rights (request ∷ requests) [] are each = absurd are
+pending_may window own rights (request ∷ requests) (ask ∷ more) are each =
     All-cons (λ (request : Request). MayWriteAnswer window request.address) request requests
-    (slot_may window request.address ask.slot usable (All-head IsAsk ask more each).slot_is are.0.address)
-    (pending_may window usable requests more are.1 (All-tail IsAsk ask more each))
+    (slot_may window request.address ask.slot own rights (All-head IsAsk ask more each).slot_is are.0.address)
+    (pending_may window own rights requests more are.1 (All-tail IsAsk ask more each))
 
 -- parts of a list
 pub all_front : {X : Type 0} (P : X → Type 0) (xs ys : List X) → All P (xs ++ ys) → All P xs
@@ -133,12 +134,12 @@ record Pends (window : PortState) (requests : List Request) : Type 0 where
   may : AreMay window requests
   few : length requests ≤ 202
 
-pends : (granted : ℕ) (at : Between) (words : List Word) → IsCalm granted at words → InPhase granted at words → Pends at.window at.unit.pending.items
-pends granted at words calm (inl away) = record { may = stale_may at.window calm.usable at.unit.pending.items away.stale.slots; few = away.stale.few }
-pends granted at words calm (inr (inl begun)) =
+pends : (granted : ℕ) (at : Between) (words : List Word) → HasRights at.window → IsCalm granted at words → InPhase granted at words → Pends at.window at.unit.pending.items
+pends granted at words rights calm (inl away) = record { may = stale_may at.window calm.usable rights at.unit.pending.items away.stale.slots; few = away.stale.few }
+pends granted at words rights calm (inr (inl begun)) =
     subst (Pends at.window) (sym begun.vacant.pending) (record { may = All-nil (λ (request : Request). MayWriteAnswer at.window request.address); few = omega arith })
-pends granted at words calm (inr (inr (asked, answers, talk))) = record {
-  may = pending_may at.window calm.usable at.unit.pending.items asked.pending talk.pending
+pends granted at words rights calm (inr (inr (asked, answers, talk))) = record {
+  may = pending_may at.window calm.usable rights at.unit.pending.items asked.pending talk.pending
       (all_front IsAsk asked.pending asked.coming (all_rest IsAsk asked.answered (asked.pending ++ asked.coming) talk.each));
   few = omega (
     arith,
@@ -150,26 +151,26 @@ pends granted at words calm (inr (inr (asked, answers, talk))) = record {
 }
 
 -- an answer may be written over what is to come
-may_over : (window : PortState) → IsOwnWindow window → (coming : List Ask) → All IsAsk coming → All (MayWriteOver window) (map word_of coming)
-may_over window usable [] each = All-nil (MayWriteOver window)
-may_over window usable (ask ∷ more) each =
-    All-cons (MayWriteOver window) (word_of ask) (map word_of more) (slot_may window (slot_address ask.slot) ask.slot usable (All-head IsAsk ask more each).slot_is refl)
-    (may_over window usable more (All-tail IsAsk ask more each))
+may_over : (window : PortState) → IsOwnWindow window → HasRights window → (coming : List Ask) → All IsAsk coming → All (MayWriteOver window) (map word_of coming)
+may_over window own rights [] each = All-nil (MayWriteOver window)
+may_over window own rights (ask ∷ more) each =
+    All-cons (MayWriteOver window) (word_of ask) (map word_of more) (slot_may window (slot_address ask.slot) ask.slot own rights (All-head IsAsk ask more each).slot_is refl)
+    (may_over window own rights more (All-tail IsAsk ask more each))
 
-words_may : (granted : ℕ) (at : Between) (words : List Word) → IsCalm granted at words → InPhase granted at words → All (MayWriteOver at.window) words
-words_may granted at words calm (inl away) = by away.heard
+words_may : (granted : ℕ) (at : Between) (words : List Word) → HasRights at.window → IsCalm granted at words → InPhase granted at words → All (MayWriteOver at.window) words
+words_may granted at words rights calm (inl away) = by away.heard
   where
     by : HearsOfGone at words → All (MayWriteOver at.window) words
     by (inl one) = subst (All (MayWriteOver at.window)) (sym one) (All-cons (MayWriteOver at.window) gone [] tt (All-nil (MayWriteOver at.window)))
     by (inr none) = subst (All (MayWriteOver at.window)) (sym none.0) (All-nil (MayWriteOver at.window))
-words_may granted at words calm (inr (inl begun)) = by begun.heard
+words_may granted at words rights calm (inr (inl begun)) = by begun.heard
   where
     by : HearsOfClient at words → All (MayWriteOver at.window) words
     by (inl one) = subst (All (MayWriteOver at.window)) (sym one.0) (All-cons (MayWriteOver at.window) begins [] tt (All-nil (MayWriteOver at.window)))
     by (inr none) = subst (All (MayWriteOver at.window)) (sym none.0) (All-nil (MayWriteOver at.window))
-words_may granted at words calm (inr (inr (asked, answers, talk))) =
+words_may granted at words rights calm (inr (inr (asked, answers, talk))) =
     subst (All (MayWriteOver at.window)) (sym talk.coming)
-    (may_over at.window calm.usable asked.coming
+    (may_over at.window calm.usable rights asked.coming
     (all_rest IsAsk asked.pending asked.coming (all_rest IsAsk asked.answered (asked.pending ++ asked.coming) talk.each)))
 
 -- and so over all that is pending once it was heard
@@ -245,11 +246,11 @@ room_for server own count ends few registered =
 
 -- THE TURN
 
-pub talk_ready : (granted : ℕ) (at : Between) (words : List Word) → TalksPlainly granted at words → IsTurnReady at.unit (reach at.server at.window false) false words
-talk_ready granted at words talks =
+pub talk_ready : (granted : ℕ) (at : Between) (words : List Word) → HasRights at.window → TalksPlainly granted at words → IsTurnReady at.unit (reach at.server at.window false) false words
+talk_ready granted at words rights talks =
     let calm = talks.calm in
     let few : length words ≤ 1 = words_few granted at words talks.phase in
-    let pending = pends granted at words calm talks.phase in
+    let pending = pends granted at words rights calm talks.phase in
     record {
       calm = record {
         alone = refl;
@@ -259,7 +260,7 @@ talk_ready granted at words talks =
         up = calm.up;
         waiting = calm.waiting;
         kept = calm.kept;
-        said = calm.said;
+        said = words_said at.window calm.usable rights (to_come at.server) words calm.said;
         order = in_order granted at words (length (taken_now at.server)) calm talks.phase;
         slots = room_for at.server at.own (length (replies words)) calm.ends
             (λ there. omega (arith, own_few granted at words talks.phase there, calm.own_slots, few, replies_few words));
@@ -269,7 +270,7 @@ talk_ready granted at words talks =
       stage = calm.stage;
       next = λ talk request rest heard is asked.
           All-head (λ request. MayWriteAnswer at.window request.address) request rest (subst (AreMay at.window) is
-          (may_all at.window words (talk_of at.unit) talk (length (taken_now at.server)) heard (words_may granted at words calm talks.phase) pending.may));
+          (may_all at.window words (talk_of at.unit) talk (length (taken_now at.server)) heard (words_may granted at words rights calm talks.phase) pending.may));
       slots = room_for at.server at.own (length (replies words) + 1) calm.ends
           (λ there. omega (arith, own_few granted at words talks.phase there, calm.own_slots, few, replies_few words));
     }

@@ -189,6 +189,7 @@ ready_again granted told home books k u old new script pair driven there is turn
         driver = driver.0;
         driver_is = driver.1;
         talks = driver.2;
+        rights = turned.rights pair after.0 there after.1 is.rights;
         owed = omega (
           arith,
           turned.owed pair after.0 there after.1,

@@ -2,9 +2,9 @@
 use Rattle.std.proofs.Common.{◌≡◌, ◌∙◌, ◌⊎◌, inl, inr, ℕ, ◌≤◌, ◌++◌, true, false, true≢false, List, [], ◌∷◌, Option, Some, None, refl, sym, ap, subst}
 use Rattle.vio_num.specs.declared.entry.Entry.{Entry}
 use Rattle.tce_window.specs.PortState.{PortState}
-use Rattle.block_server.specs.Talk.{SayWords, SaysWord, Word, to_come}
+use Rattle.block_server.specs.Talk.{Word, to_come}
 use Rattle.block_server.specs.declared.unit.Unit.{Unit}
-use Rattle.vcpu_run.specs.PlainTalk.{AreEnds, Ask, Between, InPhase, IsCalm, IsOwnWindow, TalksPlainly, word_of}
+use Rattle.vcpu_run.specs.PlainTalk.{AreEnds, AreSaidThere, Ask, Between, InPhase, IsCalm, IsOwnWindow, IsSaidThere, TalksPlainly, word_of}
 use Rattle.vcpu_run.proofs.PlainAsks.{Sends, SendsOut, logs_out, sends_talk}
 
 -- The entry was put into the server unit's queue; else the ends and the unit are as they were.
@@ -18,11 +18,11 @@ pub record EntryPut (at at' : Between) (entry : Entry) : Type 0 where
   pub come : to_come at'.server ≡ to_come at.server ++ entry ∷ []
   pub usable : IsOwnWindow at'.window
 
-pub none_said : (window : PortState) (entries : List Entry) → SayWords window entries [] → entries ≡ []
+pub none_said : (window : PortState) (entries : List Entry) → AreSaidThere window entries [] → entries ≡ []
 none_said window [] said = refl
 none_said window (entry ∷ entries) said = absurd said
 
-pub calm_asks : (granted : ℕ) (at at' : Between) (entry : Entry) (word : Word) → IsCalm granted at [] → EntryPut at at' entry → SaysWord at'.window entry word
+pub calm_asks : (granted : ℕ) (at at' : Between) (entry : Entry) (word : Word) → IsCalm granted at [] → EntryPut at at' entry → IsSaidThere at'.window entry word
     → IsCalm granted at' (word ∷ [])
 calm_asks granted at at' entry word calm put says = record {
   registered = put.registered ∙ calm.registered;
@@ -38,7 +38,7 @@ calm_asks granted at at' entry word calm put says = record {
   server_slots = subst (λ n. 256 ≤ n) (sym put.server_slots) calm.server_slots;
   own_slots = subst (λ n. 256 ≤ n) (sym put.own_slots) calm.own_slots;
   usable = put.usable;
-  said = subst (λ (entries : List Entry). SayWords at'.window entries (word ∷ []))
+  said = subst (λ (entries : List Entry). AreSaidThere at'.window entries (word ∷ []))
       (sym (put.come ∙ ap (λ (entries : List Entry). entries ++ entry ∷ []) (none_said at.window (to_come at.server) calm.said))) (says, tt);
 }
 
@@ -47,7 +47,7 @@ no_grant e = cc (e)
 
 -- a task or a command
 pub plainly_sends : (granted : ℕ) (at at' : Between) (ask : Ask) (entry : Entry) → TalksPlainly granted at [] → at.own.registered ≡ true → Sends at at' ask → EntryPut at at' entry
-    → SaysWord at'.window entry (word_of ask) → TalksPlainly granted at' (word_of ask ∷ [])
+    → IsSaidThere at'.window entry (word_of ask) → TalksPlainly granted at' (word_of ask ∷ [])
 plainly_sends granted at at' ask entry talks registered sends put says = record {
   calm = calm_asks granted at at' entry (word_of ask) talks.calm put says;
   phase = by talks.phase;
@@ -62,7 +62,7 @@ plainly_sends granted at at' ask entry talks registered sends put says = record 
 
 -- a logout
 pub plainly_out : (granted : ℕ) (at at' : Between) (ask : Ask) (entry : Entry) → TalksPlainly granted at [] → at.own.registered ≡ true → SendsOut at at' ask → EntryPut at at' entry
-    → SaysWord at'.window entry (word_of ask) → TalksPlainly granted at' (word_of ask ∷ [])
+    → IsSaidThere at'.window entry (word_of ask) → TalksPlainly granted at' (word_of ask ∷ [])
 plainly_out granted at at' ask entry talks registered sends put says = record {
   calm = calm_asks granted at at' entry (word_of ask) talks.calm put says;
   phase = by talks.phase;

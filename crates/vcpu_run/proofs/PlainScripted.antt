@@ -16,9 +16,9 @@ use Rattle.block_server.specs.declared.unit.Unit.{Unit}
 use Rattle.vcpu_run.specs.Credited.{Ended, ended_by, grants}
 use Rattle.vcpu_run.specs.NotedOn.{AllKeepNoted}
 use Rattle.vcpu_run.specs.Pairs.{AreDriven}
-use Rattle.vcpu_run.specs.PlainClients.{IsPlainClient, granted_in}
+use Rattle.vcpu_run.specs.PlainClients.{IsPlainClient, granted_in, keeps_own}
 use Rattle.vcpu_run.specs.PlainPairs.{between_of}
-use Rattle.vcpu_run.specs.PlainScripts.{AllRestPlainly, AllTalkOn, IsPlainSeat, LinePlainly, NoneAwaits, OfUnit, PairAsks, PairIs, PairNotes, PairSteppedAs, PairSteppedOn, PairTalks, QuietsPlainly, StandsAt, StandsPlainly, StandsPlainlyAt, TurnedPlainly, TurnsPlainly, after_ended, answers_in, awaits, owes_at, rows_in, told_in}
+use Rattle.vcpu_run.specs.PlainScripts.{AllRestPlainly, AllTalkOn, IsPlainSeat, LinePlainly, NoneAwaits, OfUnit, PairAsks, PairIs, PairKeepsRights, PairNotes, PairSteppedAs, PairSteppedOn, PairTalks, QuietsPlainly, StandsAt, StandsPlainly, StandsPlainlyAt, TurnedPlainly, TurnsPlainly, after_ended, answers_in, awaits, owes_at, rows_in, told_in}
 use Rattle.vcpu_run.specs.PlainSteps.{AsksAnew, FollowsReplay, HasCome, RestsAs, granted_by}
 use Rattle.vcpu_run.specs.PlainTalk.{Between, TalksPlainly}
 use Rattle.vcpu_run.specs.PortWords.{HasNoCall}
@@ -42,7 +42,7 @@ use Rattle.vcpu_run.proofs.PlainAsking.{none_anew}
 use Rattle.vcpu_run.proofs.PlainNotes.{notes_same}
 use Rattle.vcpu_run.proofs.PlainOwed.{one_if}
 use Rattle.vcpu_run.proofs.PlainReplayed.{after_push, line_begins, replayed_more}
-use Rattle.vcpu_run.proofs.PlainSpared.{plain_verb, spares_tables}
+use Rattle.vcpu_run.proofs.PlainSpared.{line_rights, plain_verb, spares_tables}
 use Rattle.vcpu_run.proofs.SeatPairs.{after_of, apart_seats, before_of}
 use Rattle.vcpu_run.proofs.PlainTellings.{driven_tell}
 use Rattle.vcpu_run.specs.PlainRejected.{TellsOf}
@@ -126,7 +126,8 @@ record StepsOwn (granted u k : ℕ) (unit : Unit) (line : Line) (p' : Progress) 
   pages : length after.window.pages ≡ length before.window.pages
   stood : StandsPlainly granted u script before
   there : slice_get old k ≡ Some before
-  on : PairSteppedOn granted unit line.verb p' (now_of granted u script before) (rows_in before.driver) (owes_at unit [] before) (answers_in before.driver) after step
+  keeps : keeps_own line.verb ≡ true
+  on : PairSteppedOn granted unit line.verb p' (now_of granted u script before) before after step
 
 -- It is another's, and the client's pair is as it was.
 record StepsOther (granted u k : ℕ) (unit : Unit) (line : Line) (script : Script) (old new : List Pair) : Type 0 where
@@ -179,6 +180,7 @@ step_of granted u k unit line p' script old new step found goes suited are drive
           pages = pages;
           stood = stands;
           there = was.1;
+          keeps = line_rights u script.lines.now script.at line seat.plain found own;
           on = plain seat.plain.no_call k sits was.0 after.0 was.1 after.1 (plain_verb u script.lines.now script.at line seat.plain found own) granted unit (now_of granted u script was.0)
               (spares_tables granted (length was.0.window.pages) u script.lines.now script.logs.items script.at line seat.plain found own) was.2
               (stands_own granted u line (slice_get script.lines.now script.at) script.progress (now_of granted u script was.0) was.0 found goes own stands.stands);
@@ -197,6 +199,13 @@ pub noted_at : (k : ℕ) (old new : List Pair) (before after : Pair) → slice_g
 noted_at k old new before after there here notes a b was is =
     subst (λ (pair : Pair). PairNotes (answers_in pair.driver) b) (some_is before a (sym there ∙ was))
     (subst (λ (pair : Pair). PairNotes (answers_in before.driver) pair) (some_is after b (sym here ∙ is)) notes)
+
+-- whether the driver's pages keep their rights
+pub rights_at : (k : ℕ) (old new : List Pair) (before after : Pair) → slice_get old k ≡ Some before → slice_get new k ≡ Some after → PairKeepsRights before after
+    → (a b : Pair) → slice_get old k ≡ Some a → slice_get new k ≡ Some b → PairKeepsRights a b
+rights_at k old new before after there here keeps a b was is =
+    subst (λ (pair : Pair). PairKeepsRights pair b) (some_is before a (sym there ∙ was))
+    (subst (λ (pair : Pair). PairKeepsRights before pair) (some_is after b (sym here ∙ is)) keeps)
 
 -- it noted nothing
 pub notes_none : (old new : Pair) → answers_in new.driver ≡ answers_in old.driver → PairNotes (answers_in old.driver) new
@@ -249,6 +258,7 @@ waits_plainly old new script p' line did found goes suited are driven told plain
       anew = anew_at k old new step.before step.after step.on.words step.there step.here step.on.anew;
       noted = noted_at k old new step.before step.after step.there step.here step.on.noted;
       keeps = keeps;
+      rights = rights_at k old new step.before step.after step.there step.here (step.on.rights step.keeps);
       stands = is_held (StandsPlainly granted u (record script { progress = p' })) (slice_get new k) step.after step.here (record {
         replayed = subst (λ n. IsReplayed granted n before_lines (ended_by u script.lines.now script.logs.items)) (sym step.pages) step.stood.replayed;
         stands = own_stands granted u line (slice_get script.lines.now script.at) p' (now_of granted u script step.after) step.after found step.own
@@ -263,6 +273,7 @@ waits_plainly old new script p' line did found goes suited are driven told plain
       anew = anew_at k old new step.pair step.pair [] step.there step.here (asks_none granted unit step.pair step.talks);
       noted = noted_at k old new step.pair step.pair step.there step.here (notes_none step.pair step.pair refl);
       keeps = keeps;
+      rights = rights_at k old new step.pair step.pair step.there step.here (λ rights. rights);
       stands = is_held (StandsPlainly granted u (record script { progress = p' })) (slice_get new k) step.pair step.here (record {
         replayed = step.stood.replayed;
         stands = other_stands granted u line (slice_get script.lines.now script.at) p' (now_of granted u script step.pair) step.pair found step.other
@@ -378,6 +389,7 @@ ends_plainly old new script done p' line row found goes suited are driven many t
       anew = anew_at k old new step.pair step.pair [] step.there step.here (asks_none granted unit step.pair step.talks);
       noted = noted_at k old new step.pair step.pair step.there step.here (notes_none step.pair step.pair refl);
       keeps = keeps;
+      rights = rights_at k old new step.pair step.pair step.there step.here (λ rights. rights);
       stands = is_held (StandsPlainly granted u done) (slice_get new k) step.pair step.here
           (other_ends granted u script done line row step.pair found goes many lines logs fresh step.other step.stood);
     }
@@ -401,6 +413,7 @@ ends_plainly old new script done p' line row found goes suited are driven many t
           anew = anew_at k old new step.before step.after step.on.words step.there step.here step.on.anew;
           noted = noted_at k old new step.before step.after step.there step.here step.on.noted;
           keeps = keeps;
+          rights = rights_at k old new step.before step.after step.there step.here (step.on.rights step.keeps);
           stands = is_held (StandsPlainly granted u done) (slice_get new k) step.after step.here (record {
             replayed = subst (λ n. IsReplayed granted n before_lines (ended_by u done.lines.now done.logs.items)) (sym step.pages)
                 (subst (IsReplayed granted pages before_lines) (sym own) (replayed_more granted pages before_lines ended e step.stood.replayed said));

@@ -14,7 +14,7 @@ use Rattle.crq_session.specs.PlainState.{end_of, side_of}
 use Rattle.crq_session.specs.declared.link.PlainLink.{PlainLink}
 use Rattle.tce_window.specs.PlainPort.{known_of}
 use Rattle.tce_window.specs.PortState.{PortState}
-use Rattle.block_server.specs.Talk.{SayWords, Word}
+use Rattle.block_server.specs.Talk.{Word}
 use Rattle.block_server.specs.declared.unit.Unit.{Unit}
 use Rattle.unit_region.specs.declared.step.Step.{Step}
 use Rattle.unit_region.specs.declared.step.Step.TheVariants as steps
@@ -25,11 +25,13 @@ use Rattle.vcpu_run.specs.PlainPairs.{between_of}
 use Rattle.vcpu_run.specs.PlainScripts.{PairAsks, PairIs, PairNotes, PairPlainly, PairRestsPlainly, PairSteppedAs, PairTalks, answers_in, owes_at, owes_to, rows_in}
 use Rattle.vcpu_run.specs.PlainSeated.{DriverPlainly, IsToldSince, own_in}
 use Rattle.vcpu_run.specs.PlainSteps.{AsksAnew, FollowsReplay, HasCome, IsAsReplayed, RestsAs, RestsPlainly, StepsPlainly, granted_by, own_by}
-use Rattle.vcpu_run.specs.PlainTalk.{Between, ServerStays, TalksPlainly, TookNoMore, owes}
+use Rattle.vcpu_run.specs.PlainTalk.{AreSaidThere, Between, ServerStays, TalksPlainly, TookNoMore, owes}
 use Rattle.vcpu_run.specs.Replay.{Replay, after_line}
 use Rattle.vcpu_run.specs.declared.driver.Driver.{Driver}
 use Rattle.vcpu_run.specs.declared.pair.Pair.{Pair}
 use Rattle.vcpu_run.specs.declared.script.Progress.{Progress}
+use Rattle.unit_region.specs.LinePuts.{StepPuts}
+use Rattle.vcpu_run.proofs.PlainRights.{rights_put, rights_same}
 use Rattle.vcpu_run.proofs.Driving.{some_is}
 use Rattle.vcpu_run.proofs.PlainPaired.{took_on}
 use Rattle.vcpu_run.proofs.PlainStill.{server_still}
@@ -86,7 +88,7 @@ same_front (row ∷ rows) old new e less =
     let long : length new ≡ length old + length (row ∷ rows) = ap (λ (list : List PipeRow). length list) e ∙ length-append old (row ∷ rows) in
     absurd (omega (arith, long, less))
 
-none_words : (window : PortState) (entries : List Entry) (words : List Word) → entries ≡ [] → SayWords window entries words → words ≡ []
+none_words : (window : PortState) (entries : List Entry) (words : List Word) → entries ≡ [] → AreSaidThere window entries words → words ≡ []
 none_words window [] [] none said = refl
 none_words window [] (word ∷ words) none said = absurd said
 none_words window (entry ∷ entries) words none said = absurd (cc (none))
@@ -167,9 +169,10 @@ notes_through old new a b was there drives before first next =
     (subst (λ (own : UnitId). NotesLaid own (known_of old.window).strokes before (answers_in old.driver)) (sym drives.unit) first) (notes_at old new a b was there next)
 
 pub pair_plainly : (verb : Verb) (p p' : Progress) (before after : ℕ) (old new : Pair) (step told : Step) → Drives old new → before ≡ length (side_of old.link true).queue.sent
-    → after ≡ length (side_of new.link true).queue.sent → TookNoMore (end_of [] new.link false) → IsToldSince before after step told → DriverPlainly verb p p' old new (Ok step)
+    → after ≡ length (side_of new.link true).queue.sent → TookNoMore (end_of [] new.link false) → IsToldSince before after step told → StepPuts verb step (known_of old.window).values (known_of new.window).values
+    → DriverPlainly verb p p' old new (Ok step)
     → PairPlainly verb p p' old new (Ok told)
-pair_plainly verb p p' before after old new step told drives first next own since is plain granted unit now spares talks come =
+pair_plainly verb p p' before after old new step told drives first next own since puts is plain granted unit now spares talks come =
     let (a, was, talk) = driver_of (λ driver. TalksPlainly granted (between_of unit driver old) []) old.driver talks in
     let (b, there, steps_on) = driver_behind (λ a b. StepsPlainly verb p p' (own_in a old) (own_in b new) (Ok step)) old.driver new.driver a was is in
     let on = steps_on plain granted unit (end_of [] old.link true) (end_of [] new.link true) now spares
@@ -182,6 +185,7 @@ pair_plainly verb p p' before after old new step told drives first next own sinc
       told = omega (arith, on.told, told_same step told since.same, owes_there unit on.words new b there, owes_there unit [] old a was);
       laid = tells_told verb step told unit.id (known_of new.window).strokes since.same on.laid;
       noted = notes_at old new a b was there on.noted;
+      rights = λ keeps. rights_put verb step (known_of old.window) (known_of new.window) keeps puts;
       stepped = step_told granted unit verb p' now new step told went since.same
           (λ quiet. none_put granted unit a b on.words old new drives own (subst (λ n. n ≤ length (side_of old.link true).queue.sent) next
           (subst (λ n. after ≤ n) first (since.quiet quiet))) talk on.talks);
@@ -211,9 +215,9 @@ rests_all granted unit now pair driver there is =
 pub pair_rests : (f g : Bool) (x y : List GName) (lent : PlainLink) (old new : Pair) (a b : Driver) (result : Result Moved NoMemory) → old.driver ≡ Some a → new.driver ≡ Some b
     → lent ≡ old.link → f ≡ false → g ≡ false → Drives old new → TookNoMore (end_of [] new.link false)
     → RestsPlainly (own_by a.client a.answers.items (end_of x lent f) (known_of old.window)) (own_by b.client b.answers.items (end_of y new.link g) (known_of new.window)) result
-    → OnOk result (PairRestsPlainly old new)
-pair_rests f g x y lent old new a b (Err memory) was there same first next drives own is = tt
-pair_rests f g x y lent old new a b (Ok moved) was there same first next drives own is = λ granted unit now talks follows.
+    → (known_of new.window).values ≡ (known_of old.window).values → OnOk result (PairRestsPlainly old new)
+pair_rests f g x y lent old new a b (Err memory) was there same first next drives own is values = tt
+pair_rests f g x y lent old new a b (Ok moved) was there same first next drives own is values = λ granted unit now talks follows.
     let talk : TalksPlainly granted (between_of unit a old) [] =
     subst (λ (o : Option Driver). IsSomeAnd o (λ driver. TalksPlainly granted (between_of unit driver old) [])) was talks in
     let rests : RestsPlainly (own_in a old) (own_in b new) (Ok moved) =
@@ -228,7 +232,8 @@ pair_rests f g x y lent old new a b (Ok moved) was there same first next drives 
       asks_at [] old new a b was there (none_anew a.client b.client (omega (arith, tag))),
       later,
       rests_all granted unit later new b there left,
-      λ before first. notes_through old new a b was there drives before first notes,
+      (λ before first. notes_through old new a b was there drives before first notes),
+      rights_same (known_of old.window) (known_of new.window) values,
     )
 
 -- what is so of a step that says it did nothing as of one that did something is so of a step as it is told

@@ -1,5 +1,5 @@
 -- What a step, the taking of all the rest and the putting of events leave of the pairs of plain clients, in the list of all pairs.
-use Rattle.std.proofs.Common.{◌≡◌, ◌≢◌, ◌∙◌, ◌⊎◌, inl, inr, ℕ, IsSomeAnd, List, [], ◌∷◌, false, true, OnOk, Option, Some, None, Result, Ok, Err, slice_get, slice_set, length, refl, sym, ap, subst, arith}
+use Rattle.std.proofs.Common.{◌≡◌, ◌∙◌, ◌⊎◌, inl, inr, ℕ, IsSomeAnd, List, [], ◌∷◌, false, true, OnOk, Option, Some, None, Result, slice_get, slice_set, length, refl, sym, ap, subst, arith}
 use Rattle.std.proofs.lemmas.List.Elements.{All-nil}
 use Rattle.std.proofs.lemmas.Option.{slice_get_within}
 use Rattle.vio_num.specs.declared.memory.NoMemory.{NoMemory}
@@ -8,7 +8,7 @@ use Rattle.boot_text.specs.declared.verb.Verb.{Verb}
 use Rattle.crq_session.specs.PlainState.{side_of}
 use Rattle.unit_region.specs.declared.step.Step.{Step}
 use Rattle.block_server.specs.Talk.Word.{gone}
-use Rattle.vcpu_run.specs.Pairs.{AreDriven, Drives}
+use Rattle.vcpu_run.specs.Pairs.{AreDriven}
 use Rattle.vcpu_run.specs.PlainScripts.{AllFailPlainly, AllRestPlainly, AllTalkOn, LinePlainly, PairAsks, PairFailed, PairFailsPlainly, PairIs, PairPlainly, PairRestsPlainly, PairTalksOn, SeatPlainly, rows_in}
 use Rattle.vcpu_run.specs.PlainSteps.{AsksAnew, WasFailed, IsNewWord, KeepsLogin}
 use Rattle.vcpu_run.specs.declared.driver.Driver.{Driver}
@@ -16,45 +16,14 @@ use Rattle.vcpu_run.specs.declared.pair.Pair.{Pair}
 use Rattle.vcpu_run.specs.declared.script.Progress.{Progress}
 use Rattle.vcpu_run.specs.declared.unit_seat.Seat.{Seat}
 use Rattle.vcpu_run.specs.declared.unit_seat.Seat.TheVariants as sits
-use Rattle.vcpu_run.proofs.Driving.{client_is, get_set_other, get_set_same, no_port, same_or, some_is}
+use Rattle.vcpu_run.proofs.Driving.{client_is, get_set_same, no_port, some_is}
+use Rattle.vcpu_run.proofs.Moving.{each_ok, each_on, each_same}
 use Rattle.vcpu_run.proofs.PlainScripted.{asks_none}
-
--- ---- the same of each pair
-
-abbrev Each : (R : Pair → Pair → Type 0) → (old new : List Pair) → Type 0
-Each R old new = (k : ℕ) (before after : Pair) → slice_get old k ≡ Some before → slice_get new k ≡ Some after → R before after
-
-each_same : (R : Pair → Pair → Type 0) (pairs : List Pair) → ((pair : Pair) → R pair pair) → Each R pairs pairs
-each_same R pairs same k before after was now = subst (R before) (some_is before after (sym was ∙ now)) (same before)
-
-each_on : (R : Pair → Pair → Type 0) (a b c : List Pair) → ((x y z : Pair) → R x y → R y z → R x z) → AreDriven a b → Each R a b → Each R b c → Each R a c
-each_on R a b c trans driven first next k before after was now = by (slice_get b k) refl (driven.each k before was)
-  where
-    by : (o : Option Pair) → slice_get b k ≡ o → IsSomeAnd o (Drives before) → R before after
-    by None e there = absurd there
-    by (Some mid) e there = trans before mid after (first k before mid was e) (next k mid after e now)
-
-each_set : (R : Pair → Pair → Type 0) (pairs : List Pair) (i : ℕ) (old new : Pair) → ((pair : Pair) → R pair pair) → slice_get pairs i ≡ Some old → R old new
-    → Each R pairs (slice_set pairs i new)
-each_set R pairs i old new same here is k before after was now = by (same_or k i)
-  where
-    by : (k ≡ i) ⊎ (k ≢ i) → R before after
-    by (inl e) =
-        let first : before ≡ old = some_is before old (sym was ∙ (ap (slice_get pairs) e ∙ here)) in
-        let next : after ≡ new =
-        some_is after new (sym now ∙ (ap (slice_get (slice_set pairs i new)) e ∙ get_set_same pairs i new (slice_get_within pairs i old here))) in
-        subst (R before) (sym next) (subst (λ (x : Pair). R x new) (sym first) is)
-    by (inr apart) = each_same R pairs same k before after was (sym (get_set_other pairs i k new apart) ∙ now)
-
-each_ok : {T E : Type 0} (R : Pair → Pair → Type 0) (r : Result T E) (pairs : List Pair) (i : ℕ) (old new : Pair) → ((pair : Pair) → R pair pair) → slice_get pairs i ≡ Some old
-    → OnOk r (R old new) → OnOk r (Each R pairs (slice_set pairs i new))
-each_ok R (Ok t) pairs i old new same here is = each_set R pairs i old new same here is
-each_ok R (Err e) pairs i old new same here is = tt
 
 -- ---- taking all the rest, and putting events
 
 rests_same : (pair : Pair) → PairRestsPlainly pair pair
-rests_same pair granted unit now talks follows = (talks, asks_none granted unit pair talks, now, follows, λ before notes. notes)
+rests_same pair granted unit now talks follows = (talks, asks_none granted unit pair talks, now, follows, (λ before notes. notes), λ rights. rights)
 
 -- nothing was asked twice
 none_then : (last : ℕ) (b c : Pair) → PairAsks last [] b → PairAsks (rows_in b.driver) [] c → PairAsks last [] c
@@ -68,17 +37,17 @@ none_then last b c = by b.driver c.driver
 
 rests_then : (a b c : Pair) → PairRestsPlainly a b → PairRestsPlainly b c → PairRestsPlainly a c
 rests_then a b c first next granted unit now talks follows =
-    let (talks', asks, later, left, notes) = first granted unit now talks follows in
-    let (talks'', asks', last, left', notes') = next granted unit later talks' left in
-    (talks'', none_then (rows_in a.driver) b c asks asks', last, left', λ before was. notes' before (notes before was))
+    let (talks', asks, later, left, notes, rights) = first granted unit now talks follows in
+    let (talks'', asks', last, left', notes', rights') = next granted unit later talks' left in
+    (talks'', none_then (rows_in a.driver) b c asks asks', last, left', (λ before was. notes' before (notes before was)), λ has. rights' (rights has))
 
 talks_same : (pair : Pair) → PairTalksOn pair pair
-talks_same pair granted unit talks = (talks, λ failed. failed)
+talks_same pair granted unit talks = (talks, (λ failed. failed), λ rights. rights)
 
 talks_then : (a b c : Pair) → PairTalksOn a b → PairTalksOn b c → PairTalksOn a c
 talks_then a b c first next granted unit talks =
     let one = first granted unit talks in
-    let two = next granted unit one.0 in (two.0, λ failed. two.1 (one.1 failed))
+    let two = next granted unit one.0 in (two.0, (λ failed. two.1 (one.1 failed)), λ rights. two.2 (one.2 rights))
 
 pub all_rest_same : (pairs : List Pair) → AllRestPlainly pairs pairs
 all_rest_same pairs = each_same PairRestsPlainly pairs rests_same
@@ -93,7 +62,7 @@ all_rest_ok r pairs i old new = each_ok PairRestsPlainly r pairs i old new rests
 -- ---- the partition fails
 
 fails_same : (pair : Pair) → PairFailsPlainly pair pair
-fails_same pair granted unit words talks may = record { later = words; talks = talks; said = inl refl; rows = refl; answers = refl; left = inl (refl, refl) }
+fails_same pair granted unit words talks may = record { later = words; talks = talks; said = inl refl; rows = refl; answers = refl; left = inl (refl, refl); rights = λ rights. rights }
 
 fails_then : (a b c : Pair) → PairFailsPlainly a b → PairFailsPlainly b c → PairFailsPlainly a c
 fails_then a b c first next granted unit words talks may = record {
@@ -103,6 +72,7 @@ fails_then a b c first next granted unit words talks may = record {
   rows = two.rows ∙ one.rows;
   answers = two.answers ∙ one.answers;
   left = left two.left one.left;
+  rights = λ rights. two.rights (one.rights rights);
 }
   where
     one : PairFailed granted unit words a b

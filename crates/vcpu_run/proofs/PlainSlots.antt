@@ -1,19 +1,20 @@
 -- The slots of a plain client's window: which ranges they are, what stands in them behind a write elsewhere, and what an entry of a unit says.
-use Rattle.std.proofs.Common.{◌≡◌, ◌≢◌, ◌∙◌, ◌⊎◌, inl, inr, ℕ, ◌-◌, ◌^◌, ◌<◌, ◌≤◌, ◌==◌, ◌&&◌, true, false, List, [], length, sym, ap, ap₂, subst, arith}
+use Rattle.std.proofs.Common.{◌≡◌, ◌≢◌, ◌∙◌, ◌⊎◌, inl, inr, ℕ, ◌-◌, ◌^◌, ◌<◌, ◌≤◌, ◌==◌, ◌&&◌, true, false, List, [], ◌∷◌, length, refl, sym, ap, ap₂, subst, arith}
 use Rattle.std.specs.Prelude.{⊤}
 use Rattle.std.proofs.lemmas.Bool.{cases_lt}
 use Rattle.byteorder.specs.Numbers.{big_number-reads_back}
 use Rattle.vio_num.specs.Entry.{entry_format, first_byte, is_srp_entry, iu_address, iu_length, srp_entry}
+use Rattle.vio_num.specs.declared.entry.Entry.{Entry}
 use Rattle.tce_window.specs.Pieces.{IsUsable}
 use Rattle.tce_window.specs.PortState.{OnlyWrites, PortState, Writes}
 use Rattle.tce_window.specs.declared.answers.Right.TheVariants.{Read}
-use Rattle.block_server.specs.Talk.{SaysWord, StandAt}
+use Rattle.block_server.specs.Talk.{SayWords, SaysWord, Word}
+use Rattle.block_server.specs.Talk.Word.{asks, begins, gone}
 use Rattle.vscsi_client.specs.Units.{slot_address}
 use Rattle.vscsi_client.specs.declared.TheConstants.{DATA_START, SLOTS}
-use Rattle.vcpu_run.specs.PlainTalk.{Ask, IsAsk, IsOwnWindow, KeepsSlots, word_of}
-use Rattle.vcpu_run.proofs.PlainPages.{shown}
-use Rattle.vcpu_run.proofs.PlainStands.{IsOnPage, shown_stand, slot_usable, stand_shown}
-use Rattle.vcpu_run.proofs.PlainStays.{Apart, laid_apart, laid_own}
+use Rattle.vcpu_run.specs.PlainTalk.{AreSaidThere, Ask, HasRights, IsAsk, IsOwnWindow, IsSaidThere, KeepsSlots, ShowsAt, shown, word_of}
+use Rattle.vcpu_run.proofs.PlainStands.{IsOnPage, shown_stand, slot_usable}
+use Rattle.vcpu_run.proofs.PlainStays.{Apart, laid_apart}
 use Rattle.vcpu_run.proofs.PlainUnits.{canon_some, canon_spells}
 use Rattle.vcpu_run.proofs.PlainRejected.{laid_stay}
 use Rattle.unit_region.specs.RegionLines.{IsOn}
@@ -48,34 +49,31 @@ pub write_keeps : (spared : ℕ → Type 0) (old new : PortState) (at mark : ℕ
     → ((slot : ℕ) → slot ≤ SLOTS → spared slot → Apart at (length bytes) (slot_address slot) 256) → KeepsSlots spared old new
 write_keeps spared old new at mark bytes own wrote only apart = record { strokes = laid_stay old new at mark bytes wrote; slots = stood; unit = ap (λ place. place.unit) only.place }
   where
-    stood : (slot : ℕ) (list : List ℕ) → slot ≤ SLOTS → spared slot → length list ≡ 256 → StandAt old (slot_address slot) list → StandAt new (slot_address slot) list
-    stood slot list within spares whole stand =
+    stood : (slot : ℕ) (list : List ℕ) → slot ≤ SLOTS → spared slot → length list ≡ 256 → ShowsAt old (slot_address slot) list → ShowsAt new (slot_address slot) list
+    stood slot list within spares whole shows =
         let on : IsOnPage old (slot_address slot) (length list) = slot_on old own slot (length list) within (omega (arith, whole)) (omega (arith, whole)) in
-        let own' : IsOwnWindow new = laid_own old new at mark bytes own wrote only in
-        shown_stand new own' (slot_address slot) list (slot_on new own' slot (length list) within (omega (arith, whole)) (omega (arith, whole)))
-        (laid_apart old new at mark bytes (slot_address slot) (length list) wrote on.some on.fits
-        (subst (λ n. Apart at (length bytes) (slot_address slot) n) (sym whole) (apart slot within spares))
-        ∙ stand_shown old own (slot_address slot) list on stand)
+        laid_apart old new at mark bytes (slot_address slot) (length list) wrote on.some on.fits
+        (subst (λ n. Apart at (length bytes) (slot_address slot) n) (sym whole) (apart slot within spares)) ∙ shows
 
 pub keeps_on : (spared : ℕ → Type 0) (a b c : PortState) → KeepsSlots (λ slot. ⊤) a b → KeepsSlots spared b c → KeepsSlots spared a c
 keeps_on spared a b c first next = record {
-  slots = λ slot bytes within spares whole stand. next.slots slot bytes within spares whole (first.slots slot bytes within tt whole stand);
+  slots = λ slot bytes within spares whole shows. next.slots slot bytes within spares whole (first.slots slot bytes within tt whole shows);
   strokes = λ page stroke is. next.strokes page stroke (first.strokes page stroke is);
   unit = next.unit ∙ first.unit;
 }
 
 pub keeps_same : (old new : PortState) → new ≡ old → KeepsSlots (λ slot. ⊤) old new
 keeps_same old new same = record {
-  slots = λ slot bytes within spares whole stand. subst (λ (w : PortState). StandAt w (slot_address slot) bytes) (sym same) stand;
+  slots = λ slot bytes within spares whole shows. subst (λ (w : PortState). ShowsAt w (slot_address slot) bytes) (sym same) shows;
   strokes = λ page stroke is. subst (λ (w : PortState). IsOn stroke (w.strokes page)) (sym same) is;
   unit = ap (λ (w : PortState). w.place.unit) same;
 }
 
 -- ---- what the entry of a unit says
 
-usable_front : (window : PortState) → IsOwnWindow window → (slot len : ℕ) → slot ≤ SLOTS → 1 ≤ len → len ≤ 256
+usable_front : (window : PortState) → IsOwnWindow window → HasRights window → (slot len : ℕ) → slot ≤ SLOTS → 1 ≤ len → len ≤ 256
     → IsUsable window.values Read window.place.size (slot_address slot) len
-usable_front window own slot len within some few = λ e from below. slot_usable window own Read slot within e from (omega (arith, below, few, some))
+usable_front window own rights slot len within some few = λ e from below. slot_usable window own rights Read slot within e from (omega (arith, below, few, some))
 
 pub entry_long : (n low : ℕ) → n ≤ 256 → iu_length (srp_entry n low) ≡ n
 entry_long n low few = omega (arith, few)
@@ -90,16 +88,18 @@ entry_address : (n low : ℕ) → low < 256 ^ 8 → iu_address (srp_entry n low)
 entry_address n low few = big_number-reads_back 8 low [] few
 
 -- the unit that was written into its slot is what the entry asks
-pub unit_said : (window : PortState) (ask : Ask) → IsOwnWindow window → IsAsk ask → shown window (slot_address ask.slot) (length ask.bytes) ≡ ask.bytes
-    → SaysWord window (srp_entry (length ask.bytes) (slot_address ask.slot)) (word_of ask)
-unit_said window ask own is show = record {
+pub unit_said : (window : PortState) (ask : Ask) → IsAsk ask → shown window (slot_address ask.slot) (length ask.bytes) ≡ ask.bytes
+    → IsSaidThere window (srp_entry (length ask.bytes) (slot_address ask.slot)) (word_of ask)
+unit_said window ask is show = record {
   srp = entry_srp (length ask.bytes) (slot_address ask.slot) few;
   address_is = entry_address (length ask.bytes) (slot_address ask.slot) (omega (arith, is.slot_is));
+  slot = ask.slot;
+  within = is.slot_is;
+  slot_is = refl;
   long = entry_long (length ask.bytes) (slot_address ask.slot) few;
   some = some;
   few = few;
-  may = usable_front window own ask.slot (length ask.bytes) is.slot_is some few;
-  stand = shown_stand window own (slot_address ask.slot) ask.bytes (slot_on window own ask.slot (length ask.bytes) is.slot_is some few) show;
+  shows = show;
   spelled = canon_spells ask.bytes ask.iu is.canonical;
 }
   where
@@ -108,3 +108,26 @@ unit_said window ask own is show = record {
 
     few : length ask.bytes ≤ 256
     few = is.canonical.within
+
+-- what is said there is said, if it may be read
+word_said : (window : PortState) → IsOwnWindow window → HasRights window → (entry : Entry) (word : Word) → IsSaidThere window entry word → SaysWord window entry word
+word_said window own rights entry begins said = said
+word_said window own rights entry gone said = said
+word_said window own rights entry (asks address bytes iu) said = record {
+  srp = said.srp;
+  address_is = said.address_is;
+  long = said.long;
+  some = said.some;
+  few = said.few;
+  may = subst (λ (a : ℕ). IsUsable window.values Read window.place.size a (length bytes)) (sym said.slot_is)
+      (usable_front window own rights said.slot (length bytes) said.within said.some said.few);
+  stand = shown_stand window own address bytes
+      (subst (λ (a : ℕ). IsOnPage window a (length bytes)) (sym said.slot_is) (slot_on window own said.slot (length bytes) said.within said.some said.few)) said.shows;
+  spelled = said.spelled;
+}
+
+pub words_said : (window : PortState) → IsOwnWindow window → HasRights window → (entries : List Entry) (words : List Word) → AreSaidThere window entries words → SayWords window entries words
+words_said window own rights [] [] said = tt
+words_said window own rights [] (word ∷ words) said = absurd said
+words_said window own rights (entry ∷ entries) [] said = absurd said
+words_said window own rights (entry ∷ entries) (word ∷ words) said = (word_said window own rights entry word said.0, words_said window own rights entries words said.1)

@@ -12,6 +12,7 @@ use Rattle.vcpu_run.specs.PlainClients.{IsPlainClient, keeps_own, lie_behind, li
 use Rattle.vcpu_run.specs.PlainScripts.{after_ended}
 use Rattle.vcpu_run.specs.PlainSteps.{IsPlainVerb, SparesTables}
 use Rattle.vcpu_run.specs.Replay.{Asked, Range, Replay, after_line, any_share, before_lines, left_unless, logout_refusal, ranges_of, refusal, share_page, with_asked}
+use Rattle.vcpu_run.proofs.PlainRights.{own_named}
 use Rattle.vcpu_run.proofs.Driving.{some_is}
 use Rattle.vcpu_run.proofs.Logging.{all_at}
 
@@ -148,9 +149,13 @@ spared_ended granted pages u written now (line ∷ lines) (row ∷ logs) all spa
 
 -- ---- a line of a plain client
 
+-- it keeps the rights of the driver's pages
+pub line_rights : (u : ℕ) (lines : List Line) (n : ℕ) (line : Line) → IsPlainClient u lines → slice_get lines n ≡ Some line → (line.unit == u) ≡ true → keeps_own line.verb ≡ true
+line_rights u lines n line plain found own = filtered u (λ l. keeps_own l.verb ≡ true) lines n line plain.own_entries found own
+
 pub plain_verb : (u : ℕ) (lines : List Line) (n : ℕ) (line : Line) → IsPlainClient u lines → slice_get lines n ≡ Some line → (line.unit == u) ≡ true → IsPlainVerb line.verb
 plain_verb u lines n line plain found own = record {
-  own_entry = filtered u (λ l. keeps_own l.verb ≡ true) lines n line plain.own_entries found own;
+  own_entry = own_named line.verb (line_rights u lines n line plain found own);
   behind = filtered u (λ l. lie_behind (written_by l.verb) ≡ true) lines n line plain.behind found own;
 }
 

@@ -20,8 +20,8 @@ use Rattle.tce_window.specs.Region.{byte_in, region_byte}
 use Rattle.block_server.specs.Talk.{IsReadWhole, StandAt}
 use Rattle.vscsi_client.specs.Units.{slot_address}
 use Rattle.vscsi_client.specs.declared.TheConstants.{DATA_START, SLOTS}
-use Rattle.vcpu_run.specs.PlainTalk.{IsOwnWindow}
-use Rattle.vcpu_run.proofs.PlainPages.{left_long, shown, shown_long, shown_on}
+use Rattle.vcpu_run.specs.PlainTalk.{HasRights, IsOwnWindow, shown, shown_on}
+use Rattle.vcpu_run.proofs.PlainPages.{left_long, shown_long}
 
 -- ---- entries
 
@@ -29,29 +29,29 @@ grants_all : (right : Right) (e : ℕ) → grants right (4096 * e + 3) ≡ true
 grants_all Read e = grind (arith, nat_tests)
 grants_all Write e = grind (arith, nat_tests)
 
--- an entry on the driver's pages has a last value, with all rights
+-- where the driver's pages have all rights, each of their entries has its last value
 end_value : (before : List ℕ) (value : ℕ) → slice_get (before ++ value ∷ []) (length before) ≡ Some value
 end_value [] value = refl
 end_value (first ∷ before) value = end_value before value
 
-own_current : (window : PortState) → IsOwnWindow window → (e : ℕ) → 4096 * e < DATA_START → (version : ℕ) × IsCurrent window.values e version (4096 * e + 3)
-own_current window own e front = (
-  length ((own.values e).usable front).0,
+own_current : (window : PortState) → HasRights window → (e : ℕ) → 4096 * e < DATA_START → (version : ℕ) × IsCurrent window.values e version (4096 * e + 3)
+own_current window rights e front = (
+  length (rights.last e front).0,
   record {
-    shown = ap (λ (list : List ℕ). slice_get list (length ((own.values e).usable front).0)) ((own.values e).usable front).1
-        ∙ end_value ((own.values e).usable front).0 (4096 * e + 3);
-    last = ap (λ (list : List ℕ). length list) ((own.values e).usable front).1 ∙ length-append ((own.values e).usable front).0 ((4096 * e + 3) ∷ []);
+    shown = ap (λ (list : List ℕ). slice_get list (length (rights.last e front).0)) (rights.last e front).1 ∙ end_value (rights.last e front).0 (4096 * e + 3);
+    last = ap (λ (list : List ℕ). length list) (rights.last e front).1 ∙ length-append (rights.last e front).0 ((4096 * e + 3) ∷ []);
   },
 )
 
 -- each slot may be used
-pub slot_usable : (window : PortState) → IsOwnWindow window → (right : Right) (slot : ℕ) → slot ≤ SLOTS → IsUsable window.values right window.place.size (slot_address slot) 256
-slot_usable window own right slot within = λ e from below. (
+pub slot_usable : (window : PortState) → IsOwnWindow window → HasRights window → (right : Right) (slot : ℕ) → slot ≤ SLOTS
+    → IsUsable window.values right window.place.size (slot_address slot) 256
+slot_usable window own rights right slot within = λ e from below. (
   omega (arith, below, within, own.size),
   record {
-    version = (own_current window own e (omega (arith, below, within))).0;
+    version = (own_current window rights e (omega (arith, below, within))).0;
     value = 4096 * e + 3;
-    current = (own_current window own e (omega (arith, below, within))).1;
+    current = (own_current window rights e (omega (arith, below, within))).1;
     granted = grants_all right e;
   },
 )
@@ -114,8 +114,9 @@ pub record IsOnPage (window : PortState) (address len : ℕ) : Type 0 where
   pub inside : address / 4096 < window.place.size
   pub front : 4096 * (address / 4096) < DATA_START
 
-pub shown_read : (window : PortState) → IsOwnWindow window → (address len : ℕ) → IsOnPage window address len → IsReadWhole window address (shown window address len)
-shown_read window own address len on = record {
+pub shown_read : (window : PortState) → IsOwnWindow window → HasRights window → (address len : ℕ) → IsOnPage window address len
+    → IsReadWhole window address (shown window address len)
+shown_read window own rights address len on = record {
   pieces = piece ∷ [];
   read = record {
     touched = (
@@ -138,7 +139,7 @@ shown_read window own address len on = record {
     page = address / 4096
 
     now : (version : ℕ) × IsCurrent window.values page version (4096 * page + 3)
-    now = own_current window own page on.front
+    now = own_current window rights page on.front
 
     piece : Piece
     piece = record { unit = window.place.unit; entry = page; version = now.0; page = page; offset = address % 4096; len = len; at = stroke_count (window.strokes page); inside = on.fits }
@@ -149,15 +150,15 @@ shown_read window own address len on = record {
     has : HasStrokes piece (window.strokes page)
     has = has_all piece (window.strokes page) (own.there page on.inside) refl
 
--- bytes stand where a window shows them, and there alone
+-- bytes stand where a window shows them, and there alone, if they may be read
 pub shown_stand : (window : PortState) → IsOwnWindow window → (address : ℕ) (bytes : List ℕ) → IsOnPage window address (length bytes) → shown window address (length bytes) ≡ bytes
     → StandAt window address bytes
 shown_stand window own address bytes on is read whole long = read_shown window own address (length bytes) read on.some on.fits whole long ∙ is
 
-pub stand_shown : (window : PortState) → IsOwnWindow window → (address : ℕ) (bytes : List ℕ) → IsOnPage window address (length bytes) → StandAt window address bytes
+pub stand_shown : (window : PortState) → IsOwnWindow window → HasRights window → (address : ℕ) (bytes : List ℕ) → IsOnPage window address (length bytes) → StandAt window address bytes
     → shown window address (length bytes) ≡ bytes
-stand_shown window own address bytes on stand =
-    stand (shown window address (length bytes)) (shown_read window own address (length bytes) on)
+stand_shown window own rights address bytes on stand =
+    stand (shown window address (length bytes)) (shown_read window own rights address (length bytes) on)
     (shown_long (window.strokes (address / 4096)) (address % 4096) (length bytes) (own.there (address / 4096) on.inside) on.fits)
 
 -- what the owner reads in its region

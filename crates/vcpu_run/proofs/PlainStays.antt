@@ -11,11 +11,10 @@ use Rattle.tce_window.specs.PortState.{OnlyWrites, PortState, Writes}
 use Rattle.tce_window.specs.Region.{stroke_on, touches, written}
 use Rattle.tce_window.specs.Strokes.{with_strokes}
 use Rattle.block_server.specs.Ranges.{AddsEach, LaysWithin, StrokeLiesIn, StrokeLiesInOne, known_in}
-use Rattle.block_server.specs.Talk.{StandAt}
 use Rattle.vscsi_client.specs.declared.TheConstants.{DATA_START}
-use Rattle.vcpu_run.specs.PlainTalk.{IsOwnEntry, IsOwnWindow}
-use Rattle.vcpu_run.proofs.PlainPages.{IsApart, left_long, shown, shown_apart, shown_last, shown_on}
-use Rattle.vcpu_run.proofs.PlainStands.{IsOnPage, shown_stand, stand_shown}
+use Rattle.vcpu_run.specs.PlainTalk.{IsOwnEntry, IsOwnWindow, shown, shown_on}
+use Rattle.vcpu_run.proofs.PlainPages.{IsApart, left_long, shown_apart, shown_last}
+use Rattle.vcpu_run.proofs.PlainStands.{IsOnPage}
 
 -- two ranges have no byte in common
 abbrev pub Apart : (a n b m : ℕ) → Type 0

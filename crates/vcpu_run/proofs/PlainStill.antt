@@ -6,7 +6,7 @@ use Rattle.vio_num.specs.declared.entry.Entry.{Entry}
 use Rattle.page_slots.specs.Stroke.{StrokeValue}
 use Rattle.srp_iu.specs.declared.unit.Iu.{Iu}
 use Rattle.tce_window.specs.PortState.{OnlyReads, PortState}
-use Rattle.block_server.specs.Talk.{MayAsk, SayWords, Word, talk_of, to_come}
+use Rattle.block_server.specs.Talk.{MayAsk, Word, talk_of, to_come}
 use Rattle.block_server.specs.declared.unit.Unit.{Unit}
 use Rattle.vscsi_client.specs.Sending.{task_of}
 use Rattle.vscsi_client.specs.Spans.{meets}
@@ -18,13 +18,10 @@ use Rattle.vscsi_client.specs.declared.outgoing.Span.{Span}
 use Rattle.vscsi_client.specs.declared.stage.Stage.{Stage}
 use Rattle.vscsi_client.specs.declared.stage.Stage.TheVariants.{Idle, Sent, Written}
 use Rattle.vcpu_run.proofs.PlainData.{data_same, named_kept, names_rest, none_meets}
-use Rattle.vcpu_run.specs.PlainTalk.{CountsAsked, ArePending, AreStale, AskedParts, Between, HaveAnswers, HearsOfClient, HearsOfGone, InPhase, IsAsk, IsAway, IsBeginning, IsCalm, IsOwnWindow, IsTalking, IsVacant, KeepsTables, KeepsSlots, ServerStays, TagsRise, TalksPlainly, all_asked, awaited, is_logout, is_sent, login_name, name_of, on_behind, StartsAt, IsOwnEntry}
-use Rattle.vcpu_run.proofs.PlainPages.{shown_on}
+use Rattle.vcpu_run.specs.PlainTalk.{AreSaidThere, CountsAsked, ArePending, AreStale, AskedParts, Between, HaveAnswers, HearsOfClient, HearsOfGone, InPhase, IsAsk, IsAway, IsBeginning, IsCalm, IsOwnWindow, IsTalking, IsVacant, KeepsTables, KeepsSlots, ServerStays, TagsRise, TalksPlainly, all_asked, awaited, is_logout, is_sent, login_name, name_of, on_behind, StartsAt, IsOwnEntry, shown_on}
 use Rattle.vcpu_run.proofs.PlainReady.{all_front}
 use Rattle.vcpu_run.proofs.PlainSays.{none_said}
 use Rattle.vcpu_run.proofs.PlainServed.{all_spared, answers_move}
-use Rattle.vcpu_run.proofs.PlainSlots.{slot_on}
-use Rattle.vcpu_run.proofs.PlainStands.{IsOnPage, shown_stand, stand_shown}
 use Rattle.vcpu_run.proofs.PlainStays.{grown_same}
 use Rattle.vcpu_run.proofs.PlainPuts.{LeavesWindow}
 use Rattle.vcpu_run.proofs.PlainTurns.{come_kept}
@@ -52,11 +49,8 @@ reads_leave old new own only = record { own = own'; keeps = keeps }
     keeps = record {
       strokes = λ page stroke is. subst (IsOn stroke) (sym (same page)) is;
       unit = ap (λ place. place.unit) only.place;
-      slots = λ slot bytes within spares whole stand.
-          let on : IsOnPage old (slot_address slot) (length bytes) = slot_on old own slot (length bytes) within (omega (arith, whole)) (omega (arith, whole)) in
-          shown_stand new own' (slot_address slot) bytes (slot_on new own' slot (length bytes) within (omega (arith, whole)) (omega (arith, whole)))
-          (ap (λ (now : Option (List StrokeValue)). shown_on now (slot_address slot % 4096) (length bytes)) (same (slot_address slot / 4096))
-          ∙ stand_shown old own (slot_address slot) bytes on stand);
+      slots = λ slot bytes within spares whole shows.
+          ap (λ (now : Option (List StrokeValue)). shown_on now (slot_address slot % 4096) (length bytes)) (same (slot_address slot / 4096)) ∙ shows;
     }
 
 -- what is awaited without a table is spared
@@ -115,7 +109,7 @@ calm_still granted at at' calm stays sent slots own = record {
   server_slots = subst (λ n. 256 ≤ n) (sym stays.slots) calm.server_slots;
   own_slots = subst (λ n. 256 ≤ n) (sym slots) calm.own_slots;
   usable = own;
-  said = subst (λ (entries : List Entry). SayWords at'.window entries []) (sym (server_still granted at at' calm stays sent)) tt;
+  said = subst (λ (entries : List Entry). AreSaidThere at'.window entries []) (sym (server_still granted at at' calm stays sent)) tt;
 }
 
 vacant_still : (at at' : Between) → ServerStays at at' → IsVacant at.unit → IsVacant at'.unit

@@ -17,8 +17,8 @@ use Rattle.tce_window.specs.Region.{byte_in, region_byte}
 use Rattle.tce_window.specs.declared.answers.Right.TheVariants.{Read}
 use Rattle.tce_window.specs.declared.piece.Piece.{Piece}
 use Rattle.block_server.specs.Talk.{IsReadWhole}
-use Rattle.vcpu_run.specs.PlainTalk.{IsOwnWindow}
-use Rattle.vcpu_run.proofs.PlainPages.{left_long, shown, shown_long, shown_on}
+use Rattle.vcpu_run.specs.PlainTalk.{IsOwnWindow, shown, shown_on}
+use Rattle.vcpu_run.proofs.PlainPages.{left_long, shown_long}
 use Rattle.vcpu_run.proofs.PlainStands.{byte_shown, own_page, piece_shown}
 
 -- ---- what a read finds

@@ -15,7 +15,7 @@ use Rattle.srp_iu.specs.declared.response.Rsp.{Rsp}
 use Rattle.srp_iu.specs.declared.unit.Iu.{Iu}
 use Rattle.srp_iu.specs.declared.unit.Iu.TheVariants as units
 use Rattle.tce_window.specs.PortState.{OnlyReads, PortState}
-use Rattle.block_server.specs.Talk.{StandAt, tag_asked, to_come}
+use Rattle.block_server.specs.Talk.{tag_asked, to_come}
 use Rattle.vscsi_client.specs.State.{ClientState}
 use Rattle.vscsi_client.specs.Taking.{Fetches, IsNext, Judges, Polls, PollsEmpty, TakesAs, TakesEntry, TakesNone, taken_by, without_tag}
 use Rattle.vscsi_client.specs.Units.{slot_address}
@@ -25,7 +25,7 @@ use Rattle.vscsi_client.specs.declared.answers.Taken.TheVariants.{Again, Answer,
 use Rattle.vscsi_client.specs.declared.outgoing.Outgoing.{Outgoing}
 use Rattle.vscsi_client.specs.declared.stage.Stage.{Stage}
 use Rattle.vscsi_client.specs.declared.stage.Stage.TheVariants.{Idle}
-use Rattle.vcpu_run.specs.PlainTalk.{Ask, AskedParts, Between, HasAnswer, HaveAnswers, IsAsk, IsCalm, IsOwnWindow, IsTalking, ServerStays, all_asked, awaited, has_login, is_counted, is_login, is_logout, is_sent, login_name, name_of, names_of, client_ports}
+use Rattle.vcpu_run.specs.PlainTalk.{Ask, AskedParts, Between, HasAnswer, HaveAnswers, IsAsk, IsCalm, IsOwnWindow, IsTalking, ServerStays, ShowsAt, all_asked, awaited, has_login, is_counted, is_login, is_logout, is_sent, login_name, name_of, names_of, client_ports}
 use Rattle.vcpu_run.proofs.PlainAsks.{answer_to}
 use Rattle.vcpu_run.proofs.PlainJudged.{HoldsResponse, TellsOldest, counted_answer, is_answer}
 use Rattle.vcpu_run.proofs.PlainPuts.{LeavesWindow}
@@ -182,7 +182,7 @@ oldest_is granted at asked answers entry entries own talk idle is = by at.client
           own = own;
           within = subst (λ slot. slot ≤ SLOTS) (sym slot_is) is_ask.slot_is;
           bytes = has.bytes;
-          stand = subst (λ slot. StandAt at.window (slot_address slot) has.bytes) (sym slot_is) has.stand;
+          stand = subst (λ slot. ShowsAt at.window (slot_address slot) has.bytes) (sym slot_is) has.stand;
           whole = has.whole;
           response = response.0;
           spelled = subst (Spells has.bytes) response.1 has.spelled;

@@ -19,7 +19,7 @@ use Rattle.rdma_copy.specs.declared.copy.CopyRecord.{CopyRecord}
 use Rattle.block_server.specs.Causes.{Told, anything}
 use Rattle.block_server.specs.Makers.{same_unit}
 use Rattle.block_server.specs.RowsOn.{row_tag}
-use Rattle.block_server.specs.Talk.{HearsAll, SayWords, Word, talk_of, to_come}
+use Rattle.block_server.specs.Talk.{HearsAll, Word, talk_of, to_come}
 use Rattle.block_server.specs.Written.{IsAnswerWritten}
 use Rattle.block_server.specs.declared.unit.Unit.{Unit}
 use Rattle.boot_text.specs.Sound.{IsServer}
@@ -76,6 +76,7 @@ use Rattle.vcpu_run.proofs.PlainTellings.{lines_move}
 use Rattle.vcpu_run.specs.PlainRejected.{TellsOf}
 use Rattle.tce_window.specs.PlainPort.{known_of}
 use Rattle.vcpu_run.specs.Pairs.{AreOfOneHome}
+use Rattle.vcpu_run.specs.PlainTalk.{AreSaidThere}
 
 -- ---- no two rows of the server unit have one tag
 
@@ -92,9 +93,9 @@ none_apart tags none i j d less within same =
 
 -- ---- nothing is to come once all was taken
 
-no_words : (window : PortState) (entries : List Entry) (words : List Word) → entries ≡ [] → SayWords window entries words → words ≡ []
+no_words : (window : PortState) (entries : List Entry) (words : List Word) → entries ≡ [] → AreSaidThere window entries words → words ≡ []
 no_words window entries [] none says = refl
-no_words window entries (word ∷ words) none says = absurd (subst (λ (list : List Entry). SayWords window list (word ∷ words)) none says)
+no_words window entries (word ∷ words) none says = absurd (subst (λ (list : List Entry). AreSaidThere window list (word ∷ words)) none says)
 
 emptied_come : (pair : Pair) → IsEmptied (link_state pair.link).server → to_come (end_of [] pair.link true) ≡ []
 emptied_come pair empty =

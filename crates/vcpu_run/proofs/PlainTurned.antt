@@ -15,7 +15,8 @@ use Rattle.block_server.specs.Talk.{HearsAll, Talk, Word, order_asked, talk_of}
 use Rattle.block_server.specs.Talk.Word.{asks, begins, gone}
 use Rattle.block_server.specs.declared.request.Request.{Request}
 use Rattle.vscsi_client.specs.declared.TheConstants.{DATA_START}
-use Rattle.vcpu_run.specs.PlainTalk.{AgreeOnLogin, AskedParts, Between, GoesBehind, InPhase, IsAway, IsBeginning, IsCalm, IsOwnEntry, IsOwnWindow, IsTalking, TalksPlainly}
+use Rattle.vcpu_run.specs.PlainTalk.{AgreeOnLogin, AskedParts, Between, GoesBehind, HasRights, InPhase, IsAway, IsBeginning, IsCalm, IsOwnEntry, IsOwnWindow, IsTalking, TalksPlainly}
+use Rattle.vcpu_run.proofs.PlainRights.{rights_same}
 use Rattle.vcpu_run.proofs.PlainLeaves.{lays_own}
 use Rattle.vcpu_run.proofs.PlainTurns.{Turns}
 
@@ -142,6 +143,20 @@ same_own old new own place same =
   where
     held : (a b : Known) → Some a ≡ Some b → a ≡ b
     held a b e = cc (e)
+
+-- a turn of the server unit puts no value, so the rights are as they were
+pub rights_behind : (at at' : Between) (lines lines' : List Grant) (words : List Word) → Turns at at' lines lines' words
+    → WritesOn (stood at.window) at.unit at.server words (seen_in false at.window) (seen_in false at'.window) → HasRights at.window → HasRights at'.window
+rights_behind at at' lines lines' words turn wrote = by turn.middle.pending.items refl
+  where
+    held : (a b : Known) → Some a ≡ Some b → a ≡ b
+    held a b e = cc (e)
+
+    by : (requests : List Request) → turn.middle.pending.items ≡ requests → HasRights at.window → HasRights at'.window
+    by [] none =
+        rights_same at.window at'.window
+        (ap (λ (k : Known). k.values) (held (known_in at'.window) (known_in at.window) (wrote.none (talk_of turn.middle) turn.hears.heard none)))
+    by (request ∷ rest) is = rights_same at.window at'.window (wrote.wrote (talk_of turn.middle) request rest turn.hears.heard is).values
 
 pub own_behind : (at at' : Between) (lines lines' : List Grant) (words : List Word) → Turns at at' lines lines' words → IsOwnWindow at.window → at'.window.place ≡ at.window.place
     → WritesOn (stood at.window) at.unit at.server words (seen_in false at.window) (seen_in false at'.window) → IsOwnWindow at'.window

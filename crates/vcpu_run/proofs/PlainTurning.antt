@@ -14,7 +14,7 @@ use Rattle.vscsi_client.specs.State.{ClientState, new_client}
 use Rattle.vcpu_run.specs.Credited.{Ended, ended_by}
 use Rattle.vcpu_run.specs.Pairs.{AreDriven}
 use Rattle.vcpu_run.specs.PlainClients.{granted_in}
-use Rattle.vcpu_run.specs.PlainScripts.{AllRestPlainly, AllTalkOn, EndsPlainly, IsPlainSeat, OfUnit, PairAsks, PairIs, PairNotes, PairTalks, QuietsPlainly, StandsAt, StandsPlainly, StandsPlainlyAt, TurnedPlainly, TurnsPlainly, after_ended, answers_in, awaits, owes_at, owes_to, rows_in, told_in}
+use Rattle.vcpu_run.specs.PlainScripts.{AllRestPlainly, AllTalkOn, EndsPlainly, IsPlainSeat, OfUnit, PairAsks, PairIs, PairKeepsRights, PairNotes, PairTalks, QuietsPlainly, StandsAt, StandsPlainly, StandsPlainlyAt, TurnedPlainly, TurnsPlainly, after_ended, answers_in, awaits, owes_at, owes_to, rows_in, told_in}
 use Rattle.vcpu_run.specs.PlainPairs.{between_of}
 use Rattle.vcpu_run.specs.PlainSteps.{AreReplayedAs, FollowsReplay, HasCome, RestsAs, WasFailed}
 use Rattle.vcpu_run.specs.PlainTalk.{Between, TalksPlainly}
@@ -36,7 +36,7 @@ use Rattle.vcpu_run.proofs.PlainAreLaid.{laid_same}
 use Rattle.vcpu_run.proofs.PlainAsking.{follows_still}
 use Rattle.vcpu_run.proofs.PlainReplayed.{come_still}
 use Rattle.vcpu_run.proofs.PlainOwed.{idle_owes, one_if, owes_none}
-use Rattle.vcpu_run.proofs.PlainScripted.{anew_at, ended_other, noted_at, notes_none, other_ends, owed_at, pair_still, stands_next}
+use Rattle.vcpu_run.proofs.PlainScripted.{anew_at, ended_other, noted_at, notes_none, other_ends, owed_at, pair_still, rights_at, stands_next}
 use Rattle.vcpu_run.proofs.ScriptsTold.{EndsWaiting, of_login, of_reset, of_take}
 use Rattle.vcpu_run.proofs.SeatPairs.{after_of, before_of}
 use Rattle.vcpu_run.proofs.PlainSeated.{pair_is, pair_was}
@@ -79,6 +79,7 @@ rests_plainly old new script over are driven rests gives granted u k unit seat t
       anew = anew_at k old new was.0 after.0 [] was.1 after.1 later.1;
       noted = noted_at k old new was.0 after.0 was.1 after.1 (later.4 (answers_in was.0.driver) (notes_none was.0 was.0 refl));
       keeps = keep_gives old new gives;
+      rights = rights_at k old new was.0 after.0 was.1 after.1 later.5;
       stands = is_held (StandsPlainly granted u script) (slice_get new k) after.0 after.1 (record {
         replayed = subst (λ n. IsReplayed granted n before_lines (ended_by u script.lines.now script.logs.items)) (sym pages) stands.replayed;
         stands = subst (λ (o : Option Line). StandsAt granted u o script.progress (after_ended granted (length after.0.window.pages) before_lines (ended_by u script.lines.now script.logs.items)) after.0) (sym over)
@@ -180,6 +181,7 @@ record Pushed (granted u k : ℕ) (unit : Unit) (script : Script) (old mid : Lis
   rows : (before middle : Pair) → slice_get old k ≡ Some before → slice_get mid k ≡ Some middle → rows_in middle.driver ≡ rows_in before.driver
   notes : (before middle : Pair) → slice_get old k ≡ Some before → slice_get mid k ≡ Some middle → answers_in middle.driver ≡ answers_in before.driver
   owes : (before middle : Pair) → slice_get old k ≡ Some before → slice_get mid k ≡ Some middle → owes_at unit [] middle ≡ owes_at unit [] before
+  rights : (before middle : Pair) → slice_get old k ≡ Some before → slice_get mid k ≡ Some middle → PairKeepsRights before middle
   after : (middle : Pair) × (slice_get mid k ≡ Some middle)
 
 pushed : (granted u k : ℕ) (unit : Unit) (script : Script) (old mid : List Pair) → AreSeats script.partition script.seats.items old → AreDriven old mid → SameClients old mid → AllTalkOn old mid
@@ -195,6 +197,8 @@ pushed granted u k unit script old mid are driven same on seat talks stood =
       rows = λ before middle there here. rows_at before middle (slice_get old k) there (same k middle here);
       notes = λ before middle there here. answers_at before middle (slice_get old k) there (same k middle here);
       owes = λ before middle there here. owes_same before middle (slice_get old k) there (same k middle here);
+      rights = λ before middle there here. (on k before middle there here granted unit
+          (held_is (PairTalks granted unit []) (slice_get old k) before there talks)).2;
       after = after;
     }
   where
@@ -232,6 +236,7 @@ pushes_plainly old mid new script later are driven same on turns granted u k uni
           turned.laid p.after.0 after p.after.1 here (driven_tell unit.id k old mid before p.after.0 (told_in u script) driven there p.after.1 all);
       owed = λ before after there here. omega (arith, p.owes before p.after.0 there p.after.1, turned.owed p.after.0 after p.after.1 here);
       keeps = keep_on old mid new driven (keep_clients old mid same) turned.keeps;
+      rights = λ before after there here has. turned.rights p.after.0 after p.after.1 here (p.rights before p.after.0 there p.after.1 has);
       stands = turned.stands;
     }
 

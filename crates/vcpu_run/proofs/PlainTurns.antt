@@ -11,7 +11,7 @@ use Rattle.crq_ring.specs.Sessions.{of_session}
 use Rattle.crq_ring.specs.declared.rows.PipeRow.{PipeRow}
 use Rattle.crq_session.specs.Answered.{received_now, taken_now}
 use Rattle.crq_session.specs.EndState.{EndPlace, EndState}
-use Rattle.block_server.specs.Talk.{AnswersRequest, EndsService, HasHeard, HasHeardAll, HearsAll, HearsOne, LogsOut, PutsReplies, Reach, Replies, SayWords, ServesFirst, ServesNext, ServesNone, SettlesLogins, Talk, TalksOn, Word, reach, replies, session_rows, talk_of, to_come}
+use Rattle.block_server.specs.Talk.{AnswersRequest, EndsService, HasHeard, HasHeardAll, HearsAll, HearsOne, LogsOut, PutsReplies, Reach, Replies, ServesFirst, ServesNext, ServesNone, SettlesLogins, Talk, TalksOn, Word, reach, replies, session_rows, talk_of, to_come}
 use Rattle.block_server.specs.Talk.Word.{asks, begins, gone}
 use Rattle.block_server.specs.declared.logins.Logins.{Logins}
 use Rattle.block_server.specs.declared.request.Request.{Request}
@@ -23,7 +23,7 @@ use Rattle.crq_session.specs.declared.handshake.Handshake.TheVariants.{Up}
 use Rattle.vscsi_client.specs.State.{ClientState}
 use Rattle.vscsi_client.specs.Units.{slot_address}
 use Rattle.vscsi_client.specs.declared.TheConstants.{SLOTS}
-use Rattle.vcpu_run.specs.PlainTalk.{AreEnds, AreStale, Between, ClientStays, HearsOfClient, HearsOfGone, IsAway, IsBeginning, IsCalm, IsVacant, TookNoMore}
+use Rattle.vcpu_run.specs.PlainTalk.{AreEnds, AreSaidThere, AreStale, Between, ClientStays, HearsOfClient, HearsOfGone, IsAway, IsBeginning, IsCalm, IsVacant, TookNoMore}
 
 -- ---- what the client's queue has more
 
@@ -201,7 +201,7 @@ calm_behind granted at at' lines lines' words calm turn stays =
       server_slots = subst (λ (p : EndPlace). 256 ≤ p.own_slots) (sym place) calm.server_slots;
       own_slots = subst (λ n. 256 ≤ n) (sym stays.slots) calm.own_slots;
       usable = stays.usable;
-      said = subst (λ (list : List Entry). SayWords at'.window list []) (sym (come_same turn.between.queue at'.server goes.place goes.session goes.taken ∙ turn.all.none)) tt;
+      said = subst (λ (list : List Entry). AreSaidThere at'.window list []) (sym (come_same turn.between.queue at'.server goes.place goes.session goes.taken ∙ turn.all.none)) tt;
     }
 
 -- ---- the client is away

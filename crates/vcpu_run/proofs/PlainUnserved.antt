@@ -45,7 +45,7 @@ pub served_away : (granted : ℕ) (told : List Ended) (home k : ℕ) (name : Uni
 served_away granted told home k name books books' a b old new turns (inl (words, plain)) off =
     let at : Between = lent_at a [] (between_of plain.unit plain.driver old) in
     let talks : TalksPlainly granted at words = talks_lent a [] granted (between_of plain.unit plain.driver old) words plain.talks in
-    let ready = talk_ready granted at words talks in
+    let ready = talk_ready granted at words plain.rights talks in
     let on = turns.talks words plain.unit plain.there ready in
     let at' : Between = lent_at b [] (between_of on.unit' plain.driver new) in
     let turn : Turns at at' books.lines books'.lines words = on.talks in

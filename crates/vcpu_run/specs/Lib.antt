@@ -49,6 +49,7 @@ pub mod LoginsSent
 pub mod Machines
 pub mod Making
 pub mod Moments
+pub mod Moves
 pub mod Named
 pub mod News
 pub mod NotedOn

@@ -52,6 +52,11 @@ written_by (verbs.Fill at len seed) = range at len ∷ []
 written_by (verbs.Poke at bytes) = range at (length bytes) ∷ []
 written_by _ = []
 
+-- whether a value that a line puts into an entry of its window names the entry's own page
+abbrev pub names_own : Verb → Bool
+names_own (verbs.Tce entry page readable writable) = page == entry
+names_own _ = true
+
 -- whether a value that a line puts into an entry of its window names the entry's own page, and has all rights if that is one of the driver's
 abbrev pub keeps_own : Verb → Bool
 keeps_own (verbs.Tce entry page readable writable) = page == entry && (nat_le DATA_START (PAGE_BYTES * entry) || (readable && writable))

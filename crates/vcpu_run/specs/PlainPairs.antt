@@ -19,7 +19,7 @@ use Rattle.vcpu_run.specs.Machines.{server_id}
 use Rattle.vcpu_run.specs.PlainBorne.{AreBorne, rows_by}
 use Rattle.vcpu_run.specs.PlainClients.{ends_by_client, granted_in, grants_of}
 use Rattle.vcpu_run.specs.PlainRows.{TagsKept, tags_by, AnswersKept, EntriesKept}
-use Rattle.vcpu_run.specs.PlainTalk.{AreEnds, Between, IsOwnWindow, TalksPlainly, owes}
+use Rattle.vcpu_run.specs.PlainTalk.{AreEnds, Between, HasRights, IsOwnWindow, TalksPlainly, owes}
 use Rattle.vcpu_run.specs.PlainNoted.{AreAnswers, AreAskedFor, IsLaidAnswer}
 use Rattle.vcpu_run.specs.PlainRejected.{TellsOf}
 
@@ -46,12 +46,13 @@ books_of units lines rows = record { units = units; lines = lines; rows = rows }
 abbrev pub EndByClient : UnitId → List Grant → Type 0
 EndByClient unit lines = All (λ line. same_unit (unit_of line) unit ≡ true → ends_by_client line ≡ true) lines
 
--- Server unit k and the client of its pair talk plainly, these words are to come, its logins end by the client alone, and no two of its
--- rows have one tag, nor will have with those that are pending once the words are heard. These lines of the client ended: with the one that
--- it is owed they say of no more logins that they were granted than the lines do; and what they say was rejected, the unit rejected. What
--- was put into the client's queue as an answer to a command with data-in has a row; and what the server unit laid behind the slots of the
--- client's window bears data-in of its rows. What it laid in the slots answers rows, or logins; the rows ask for as much as the client's
--- commands; and what the client noted was laid there. An entry that was put as an answer says how long the answer of the row of its tag is.
+-- Server unit k and the client of its pair talk plainly, these words are to come, the driver's pages have all rights, its logins end by the
+-- client alone, and no two of its rows have one tag, nor will have with those that are pending once the words are heard. These lines of the
+-- client ended: with the one that it is owed they say of no more logins that they were granted than the lines do; and what they say was
+-- rejected, the unit rejected. What was put into the client's queue as an answer to a command with data-in has a row; and what the server
+-- unit laid behind the slots of the client's window bears data-in of its rows. What it laid in the slots answers rows, or logins; the rows
+-- ask for as much as the client's commands; and what the client noted was laid there. An entry that was put as an answer says how long the
+-- answer of the row of its tag is.
 pub record IsPlainPair (granted : ℕ) (told : List Ended) (home : ℕ) (books : ServerBooks) (k : ℕ) (words : List Word) (pair : Pair) : Type 0 where
   pub unit : Unit
   pub there : slice_get books.units k ≡ Some unit
@@ -59,6 +60,7 @@ pub record IsPlainPair (granted : ℕ) (told : List Ended) (home : ℕ) (books :
   pub driver : Driver
   pub driver_is : pair.driver ≡ Some driver
   pub talks : TalksPlainly granted (between_of unit driver pair) words
+  pub rights : HasRights (known_of pair.window)
   pub owed : granted_in told + owes (between_of unit driver pair) words ≤ grants_of (server_id home k) books.lines
   pub laid : All (TellsOf unit.id (known_of pair.window).strokes) told
   pub lines : EndByClient (server_id home k) books.lines
@@ -95,6 +97,7 @@ pub record IsNewPair (granted : ℕ) (told : List Ended) (home : ℕ) (books : S
   pub driver : Driver
   pub driver_is : pair.driver ≡ Some driver
   pub new : IsNewBetween granted (between_of unit driver pair)
+  pub rights : HasRights (known_of pair.window)
   pub owed : granted_in told ≤ grants_of (server_id home k) books.lines
   pub laid : All (TellsOf unit.id (known_of pair.window).strokes) told
   pub lines : EndByClient (server_id home k) books.lines
@@ -125,6 +128,7 @@ pub record IsOpened (pair : Pair) (driver : Driver) : Type 0 where
   pub server_slots : 256 ≤ (side_of pair.link true).queue.slots
   pub own_slots : 256 ≤ (side_of pair.link false).queue.slots
   pub usable : IsOwnWindow (known_of pair.window)
+  pub rights : HasRights (known_of pair.window)
   pub unit : pair.window.unit ≡ driver.unit
   pub blank : AreBlank (known_of pair.window).strokes
 

@@ -15,11 +15,11 @@ use Rattle.block_server.specs.Talk.Word.{gone}
 use Rattle.block_server.specs.declared.unit.Unit.{Unit}
 use Rattle.vscsi_client.specs.State.{new_client}
 use Rattle.vcpu_run.specs.Credited.{Ended, ended_by}
-use Rattle.vcpu_run.specs.PlainClients.{IsPlainClient, granted_in}
+use Rattle.vcpu_run.specs.PlainClients.{IsPlainClient, granted_in, keeps_own}
 use Rattle.vcpu_run.specs.NotedOn.{AllKeepNoted}
 use Rattle.vcpu_run.specs.PlainPairs.{between_of}
 use Rattle.vcpu_run.specs.PlainSteps.{AsksAnew, FollowsReplay, HasCome, IsPlainVerb, SparesTables, StepTells, granted_by, WasFailed, RestsAs}
-use Rattle.vcpu_run.specs.PlainTalk.{Between, TalksPlainly, owes}
+use Rattle.vcpu_run.specs.PlainTalk.{Between, HasRights, TalksPlainly, owes}
 use Rattle.vcpu_run.specs.Replay.{IsReplayed, Replay, after_line, before_lines, ends_as}
 use Rattle.vcpu_run.specs.Works.{fails}
 use Rattle.vcpu_run.specs.declared.driver.Driver.{Driver}
@@ -83,26 +83,32 @@ answers_in (Some driver) = driver.answers.items
 abbrev pub PairNotes : (before : List AnswerRow) → Pair → Type 0
 PairNotes before pair = NotesLaid pair.window.unit (known_of pair.window).strokes before (answers_in pair.driver)
 
-pub record PairSteppedOn (granted : ℕ) (unit : Unit) (verb : Verb) (p : Progress) (now : Replay) (last owed : ℕ) (before : List AnswerRow) (pair : Pair) (step : Step) : Type 0 where
+-- if the driver's pages had all rights, they have them
+abbrev pub PairKeepsRights : (old new : Pair) → Type 0
+PairKeepsRights old new = HasRights (known_of old.window) → HasRights (known_of new.window)
+
+pub record PairSteppedOn (granted : ℕ) (unit : Unit) (verb : Verb) (p : Progress) (now : Replay) (old new : Pair) (step : Step) : Type 0 where
   pub words : List Word
-  pub talks : PairTalks granted unit words pair
-  pub anew : PairAsks last words pair
-  pub stepped : PairSteppedAs granted unit verb p now pair words step
-  pub told : granted_by step + owes_at unit words pair ≤ owed
-  pub laid : StepTells verb step unit.id (known_of pair.window).strokes
-  pub noted : PairNotes before pair
+  pub talks : PairTalks granted unit words new
+  pub anew : PairAsks (rows_in old.driver) words new
+  pub stepped : PairSteppedAs granted unit verb p now new words step
+  pub told : granted_by step + owes_at unit words new ≤ owes_at unit [] old
+  pub laid : StepTells verb step unit.id (known_of new.window).strokes
+  pub noted : PairNotes (answers_in old.driver) new
+  pub rights : keeps_own verb ≡ true → PairKeepsRights old new
 
 -- A step of a plain line at its pair goes on as the replay, where nothing is to come to the server unit.
 abbrev pub PairPlainly : Verb → (p p' : Progress) → (old new : Pair) → Result Step NoMemory → Type 0
 PairPlainly verb p p' old new result =
     IsPlainVerb verb → (granted : ℕ) (unit : Unit) (now : Replay) → SparesTables verb now → PairTalks granted unit [] old → PairIs (HasCome granted verb p now) old
-    → IfOk result (PairSteppedOn granted unit verb p' now (rows_in old.driver) (owes_at unit [] old) (answers_in old.driver) new)
+    → IfOk result (PairSteppedOn granted unit verb p' now old new)
 
 -- Behind the last line answers are taken, and nothing is asked.
 abbrev pub PairRestsPlainly : (old new : Pair) → Type 0
 PairRestsPlainly old new = (granted : ℕ) (unit : Unit) (now : Replay) → PairTalks granted unit [] old → PairIs (RestsAs granted now) old
     → PairTalks granted unit [] new × PairAsks (rows_in old.driver) [] new × (later : Replay) × PairIs (RestsAs granted later) new
     × ((before : List AnswerRow) → PairNotes before old → PairNotes before new)
+    × PairKeepsRights old new
 
 -- The partition fails: the client's queue is freed, if it is registered, of which its server unit is to hear; or all is as it was. It asks
 -- for nothing.
@@ -113,14 +119,16 @@ pub record PairFailed (granted : ℕ) (unit : Unit) (words : List Word) (old new
   pub rows : rows_in new.driver ≡ rows_in old.driver
   pub answers : answers_in new.driver ≡ answers_in old.driver
   pub left : ((new ≡ old) × (later ≡ words)) ⊎ PairIs WasFailed new
+  pub rights : PairKeepsRights old new
 
 abbrev pub PairFailsPlainly : (old new : Pair) → Type 0
 PairFailsPlainly old new = (granted : ℕ) (unit : Unit) (words : List Word) → PairTalks granted unit words old
     → ((words ≡ []) × ((side_of old.link false).registered ≡ true)) ⊎ PairIs WasFailed old → PairFailed granted unit words old new
 
--- The client and its server unit talk on as they did, also where its partition failed.
+-- The client and its server unit talk on as they did, also where its partition failed; the rights of the driver's pages stay.
 abbrev pub PairTalksOn : (old new : Pair) → Type 0
-PairTalksOn old new = (granted : ℕ) (unit : Unit) → PairTalks granted unit [] old → PairTalks granted unit [] new × (PairIs WasFailed old → PairIs WasFailed new)
+PairTalksOn old new = (granted : ℕ) (unit : Unit) → PairTalks granted unit [] old
+    → PairTalks granted unit [] new × (PairIs WasFailed old → PairIs WasFailed new) × PairKeepsRights old new
 
 -- the same of all pairs, and of the pair of a line's client
 abbrev pub AllRestPlainly : (old new : List Pair) → Type 0
@@ -204,7 +212,8 @@ pub record IsPlainSeat (script : Script) (u k : ℕ) : Type 0 where
 
 -- A turn of a script leaves each plain client as the replay says, where it and this server unit talk plainly and nothing is to come; a login
 -- that its lines say was granted is one that it was owed, and it is owed no other; and one that they say was rejected, the server unit
--- rejected; and what answers its client noted, another unit laid in its region. (These lines ended before.)
+-- rejected; what answers its client noted, another unit laid in its region; and the driver's pages keep all rights. (These lines ended
+-- before.)
 pub record TurnedPlainly (granted : ℕ) (told : List Ended) (u k : ℕ) (unit : Unit) (old new : List Pair) (script : Script) : Type 0 where
   pub words : List Word
   pub talks : IsSomeAnd (slice_get new k) (PairTalks granted unit words)
@@ -215,6 +224,7 @@ pub record TurnedPlainly (granted : ℕ) (told : List Ended) (u k : ℕ) (unit :
       → All (TellsOf unit.id (known_of before.window).strokes) told → All (TellsOf unit.id (known_of after.window).strokes) (told_in u script)
   pub noted : (before after : Pair) → slice_get old k ≡ Some before → slice_get new k ≡ Some after → PairNotes (answers_in before.driver) after
   pub keeps : AllKeepNoted old new
+  pub rights : (before after : Pair) → slice_get old k ≡ Some before → slice_get new k ≡ Some after → PairKeepsRights before after
   pub stands : StandsPlainlyAt granted u k new script
 
 abbrev pub TurnsPlainly : (old new : List Pair) → (script script' : Script) → Type 0

@@ -26,7 +26,7 @@ use Rattle.vscsi_client.specs.declared.stage.Stage.TheVariants.{Idle}
 use Rattle.vio_num.specs.declared.names.UnitId.{UnitId}
 use Rattle.page_slots.specs.Stroke.{StrokeValue}
 use Rattle.vcpu_run.specs.Credited.{grants, taken_in}
-use Rattle.vcpu_run.specs.PlainClients.{keeps_own, lie_behind, written_by}
+use Rattle.vcpu_run.specs.PlainClients.{lie_behind, names_own, written_by}
 use Rattle.vcpu_run.specs.PlainTalk.{Between, ServerStays, TalksPlainly, is_sent, owes, is_login}
 use Rattle.vcpu_run.specs.PlainNoted.{AreLaid, NotesLaid}
 use Rattle.vcpu_run.specs.PlainRejected.{TellsRejection}
@@ -204,9 +204,9 @@ OwnNotes old new = NotesLaid new.window.place.unit new.window.strokes old.answer
 abbrev pub beside : Unit → EndState → Own → Between
 beside unit server own = record { unit = unit; server = server; client = own.client; own = own.end; window = own.window }
 
--- A line keeps each entry its own page, and those of the driver's pages all rights; and it writes behind these.
+-- A line keeps each entry its own page, and it writes behind the driver's pages. (It may take a right from these.)
 pub record IsPlainVerb (verb : Verb) : Type 0 where
-  pub own_entry : keeps_own verb ≡ true
+  pub own_entry : names_own verb ≡ true
   pub behind : lie_behind (written_by verb) ≡ true
 
 -- A line writes on no page of a table of what is outstanding.

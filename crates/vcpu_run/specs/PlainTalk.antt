@@ -1,7 +1,7 @@
 -- What lies between a plain client and its server unit between turns: what the client asked and is not done with, where each of that is,
 -- and how far both have come.
-use Rattle.std.specs.Prelude.{get_or, ◌≡◌, ◌≢◌, ◌⊎◌, ℕ, ◌+◌, ◌*◌, ◌/◌, ◌<◌, ◌≤◌, ◌++◌, ◌&&◌, nat_le, not, All, Bool, true, false, List, [], ◌∷◌, Some, None, IsSome, is_some, length, map, min, slice_get, ⊤, if◌then◌else◌}
-use Rattle.vio_num.specs.Entry.{initialization_complete, srp_entry}
+use Rattle.std.specs.Prelude.{get_or, ◌≡◌, ◌≢◌, ◌⊎◌, ℕ, ◌+◌, ◌*◌, ◌/◌, ◌<◌, ◌≤◌, ◌++◌, ◌%◌, ◌&&◌, drop, nat_le, not, take, All, Bool, true, false, List, [], ◌∷◌, Option, Some, None, IsSome, is_some, length, map, min, slice_get, ⊤, if◌then◌else◌}
+use Rattle.vio_num.specs.Entry.{initialization_complete, initialize, is_srp_entry, iu_address, iu_length, srp_entry}
 use Rattle.vio_num.specs.declared.TheConstants.{PAGE_BYTES}
 use Rattle.vio_num.specs.declared.entry.Entry.{Entry}
 use Rattle.crq_session.specs.Answered.{received_now, taken_now}
@@ -17,16 +17,18 @@ use Rattle.srp_iu.specs.declared.command.Cmd.{Cmd}
 use Rattle.srp_iu.specs.declared.login.TheConstants.{UNABLE_TO_ESTABLISH_CHANNEL}
 use Rattle.srp_iu.specs.declared.unit.Iu.{Iu}
 use Rattle.srp_iu.specs.declared.unit.Iu.TheVariants as units
+use Rattle.page_slots.specs.Page.{left_by}
 use Rattle.page_slots.specs.Stroke.{StrokeValue}
 use Rattle.tce_window.specs.PortState.{PortState}
 use Rattle.tce_window.specs.Region.{region_byte}
 use Rattle.unit_region.specs.RegionLines.{IsOn}
 use Rattle.vio_num.specs.declared.names.UnitId.{UnitId}
 use Rattle.block_server.specs.Carried.{address_of}
+use Rattle.block_server.specs.Closings.{is_event}
 use Rattle.block_server.specs.Ends.{IsGrantable}
 use Rattle.block_server.specs.Ranges.{IsDataIn}
 use Rattle.block_server.specs.Standing.{stood}
-use Rattle.block_server.specs.Talk.{MayAsk, SayWords, StandAt, Word, order_asked, tag_asked, talk_of, to_come}
+use Rattle.block_server.specs.Talk.{MayAsk, Word, order_asked, tag_asked, talk_of, to_come}
 use Rattle.block_server.specs.Talk.Word.{asks, begins, gone}
 use Rattle.block_server.specs.declared.request.Order.{Order}
 use Rattle.block_server.specs.declared.request.Request.{Request}
@@ -131,6 +133,21 @@ is_sent stage = false
 abbrev pub awaited : ClientState → List Outgoing
 awaited s = s.outgoing ++ login_name s.login
 
+-- WHAT SHOWS IN THE REGION ------------------------------------------------------------------------
+
+-- what the strokes on a page leave of it, from a place on, so many bytes long
+abbrev pub shown_on : Option (List StrokeValue) → (start count : ℕ) → List ℕ
+shown_on (Some strokes) start count = take count (drop start (left_by strokes))
+shown_on None start count = []
+
+-- the same of the region, on the page of the address
+abbrev pub shown : PortState → (address len : ℕ) → List ℕ
+shown window address len = shown_on (window.strokes (address / PAGE_BYTES)) (address % PAGE_BYTES) len
+
+-- These bytes show there, whatever the entries let be read.
+abbrev pub ShowsAt : PortState → (address : ℕ) → List ℕ → Type 0
+ShowsAt window address bytes = shown window address (length bytes) ≡ bytes
+
 -- WHERE IT IS -------------------------------------------------------------------------------------
 
 -- what a client asked and is not done with: what has its answer, what is pending, and what is to come; the oldest stand first, and what has
@@ -172,7 +189,7 @@ pub record HasAnswer (window : PortState) (entry : Entry) (ask : Ask) (answer : 
   pub few : long ≤ 256
   pub entry_is : entry ≡ srp_entry long ask.tag
   pub bytes : List ℕ
-  pub stand : StandAt window (slot_address ask.slot) bytes
+  pub stand : ShowsAt window (slot_address ask.slot) bytes
   pub whole : length bytes ≡ 256
   pub spelled : Spells bytes answer
   pub suits : IsAnswerTo ask.iu answer
@@ -265,10 +282,9 @@ pub record AreEnds (server own : EndState) : Type 0 where
   pub server_took : TookNoMore server
   pub own_took : TookNoMore own
 
--- Each value of an entry names the entry's own page; the last one of an entry on the driver's pages does so with all rights.
+-- Each value of an entry names the entry's own page.
 pub record IsOwnEntry (e : ℕ) (values : List ℕ) : Type 0 where
   pub names : (version value : ℕ) → slice_get values version ≡ Some value → value / PAGE_BYTES ≡ e
-  pub usable : PAGE_BYTES * e < DATA_START → (before : List ℕ) × (values ≡ before ++ (PAGE_BYTES * e + 3) ∷ [])
 
 -- The entries of the window are its own; the region has the pages of the slots and of the place behind them, and 256 at most; and each of
 -- its pages is there.
@@ -277,6 +293,35 @@ pub record IsOwnWindow (window : PortState) : Type 0 where
   pub size : DATA_START ≤ 4096 * window.place.size
   pub most : window.place.size ≤ 256
   pub there : (p : ℕ) → p < window.place.size → IsSome (window.strokes p)
+
+-- The last value of each entry of the driver's pages is its own page with all rights: the server unit may read there and write.
+pub record HasRights (window : PortState) : Type 0 where
+  pub last : (e : ℕ) → PAGE_BYTES * e < DATA_START → (before : List ℕ) × (window.values e ≡ before ++ (PAGE_BYTES * e + 3) ∷ [])
+
+-- An SRP entry names a slot, or the place behind them, and the length of these bytes, which show there and spell the information unit;
+-- whether the window lets them be read is not said.
+pub record IsAskedThere (window : PortState) (entry : Entry) (address : ℕ) (bytes : List ℕ) (iu : Iu) : Type 0 where
+  pub srp : is_srp_entry entry ≡ true
+  pub address_is : iu_address entry ≡ address
+  pub slot : ℕ
+  pub within : slot ≤ SLOTS
+  pub slot_is : address ≡ slot_address slot
+  pub long : iu_length entry ≡ length bytes
+  pub some : 1 ≤ length bytes
+  pub few : length bytes ≤ 256
+  pub shows : ShowsAt window address bytes
+  pub spelled : Spells bytes iu
+
+abbrev pub IsSaidThere : PortState → Entry → Word → Type 0
+IsSaidThere window entry begins = entry ≡ initialize
+IsSaidThere window entry gone = is_event entry ≡ true
+IsSaidThere window entry (asks address bytes iu) = IsAskedThere window entry address bytes iu
+
+-- Each entry says its word.
+abbrev pub AreSaidThere : PortState → List Entry → List Word → Type 0
+AreSaidThere window [] [] = ⊤
+AreSaidThere window (entry ∷ entries) (word ∷ words) = IsSaidThere window entry word × AreSaidThere window entries words
+AreSaidThere window _ _ = ⊥
 
 -- Nothing is amiss: the server unit's queue is registered and its session goes on, nothing waits, is kept or is in service, it grants
 -- this many requests; the queues have room; and these words are to come.
@@ -294,7 +339,7 @@ pub record IsCalm (granted : ℕ) (at : Between) (words : List Word) : Type 0 wh
   pub server_slots : 256 ≤ at.server.place.own_slots
   pub own_slots : 256 ≤ at.own.place.own_slots
   pub usable : IsOwnWindow at.window
-  pub said : SayWords at.window (to_come at.server) words
+  pub said : AreSaidThere at.window (to_come at.server) words
 
 -- no login is on there, and nothing is pending
 pub record IsVacant (unit : Unit) : Type 0 where
@@ -462,10 +507,10 @@ pub record ServerStays (old new : Between) : Type 0 where
 
 -- WHAT STANDS IN THE SLOTS ------------------------------------------------------------------------
 
--- What stood in the slots stands there, and no stroke is gone; the region is the same unit's.
+-- What showed in the slots shows there, and no stroke is gone; the region is the same unit's.
 pub record KeepsSlots (spared : ℕ → Type 0) (old new : PortState) : Type 0 where
   pub slots : (slot : ℕ) (bytes : List ℕ) → slot ≤ SLOTS → spared slot → length bytes ≡ 256
-      → StandAt old (slot_address slot) bytes → StandAt new (slot_address slot) bytes
+      → ShowsAt old (slot_address slot) bytes → ShowsAt new (slot_address slot) bytes
   pub strokes : (page : ℕ) (stroke : StrokeValue) → IsOn stroke (old.strokes page) → IsOn stroke (new.strokes page)
   pub unit : new.place.unit ≡ old.place.unit
 
@@ -477,7 +522,7 @@ KeepsTables spared old new = (ask : Ask) → spared ask → DataLies old ask →
 pub record AnswerStands (granted : ℕ) (who : UnitId) (window : PortState) (ask : Ask) (long : ℕ) (outcome : Outcome) (answer : Iu) : Type 0 where
   pub few : long ≤ 256
   pub bytes : List ℕ
-  pub stand : StandAt window (slot_address ask.slot) bytes
+  pub stand : ShowsAt window (slot_address ask.slot) bytes
   pub whole : length bytes ≡ 256
   pub spelled : Spells bytes answer
   pub suits : IsAnswerTo ask.iu answer

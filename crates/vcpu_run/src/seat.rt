@@ -14,6 +14,7 @@ ghost use Rattle.vcpu_run.specs.ClientMoments.{PairStepped};
 ghost use Rattle.vcpu_run.specs.ClientStrokes.{PairLays, PairLaysNone};
 ghost use Rattle.vcpu_run.specs.Holding.{PairOpen};
 ghost use Rattle.vcpu_run.specs.Links.{ClientWaits, EventWaits, PairRests, link_state};
+ghost use Rattle.vcpu_run.specs.Moves.{EventMoves, PairHandlesBy};
 ghost use Rattle.vcpu_run.specs.Agreed.{OnDrivers};
 ghost use Rattle.hcall_table.specs.Asked.{bare};
 ghost use Rattle.hcall_table.specs.Rows.{IsAnswer, may_answer};
@@ -53,6 +54,7 @@ pub(crate) fn push_event(pair: &mut Pair) -> Result<Moved, NoMemory>
     ensures calm { PairCalm pair.old pair.new }
     ensures quiet { IfOk result (λ moved. moved ≡ Moved.Quiet → PairRests pair.old pair.new) }
     ensures waits { IfOk result (λ moved. moved ≡ Moved.Quiet → EventWaits pair.new) }
+    ensures moved { IfOk result (λ moved. EventMoves moved pair.old pair.new) }
     ensures plainly { OnOk result (PairTalksOn pair.old pair.new) }
     ensures acts { OnOk result (AtPair PushesEvent pair.old pair.new) }
 {
@@ -171,6 +173,7 @@ pub(crate) fn take_rest(pair: &mut Pair) -> Result<Moved, NoMemory>
     ensures quiet { IfOk result (λ moved. moved ≡ Moved.Quiet → PairRests pair.old pair.new) }
     ensures waits { IfOk result (λ moved. moved ≡ Moved.Quiet →
         ClientWaits (link_state pair.new.link)) }
+    ensures moved { IfOk result (λ moved. PairHandlesBy moved pair.old pair.new) }
     ensures plainly { OnOk result (PairRestsPlainly pair.old pair.new) }
     ensures acts { OnOk result (AtPair TakesRest pair.old pair.new) }
 {
@@ -195,6 +198,7 @@ pub(crate) fn fail(pair: &mut Pair) -> Result<bool, NoMemory>
     ensures shuts { PairShuts pair.old pair.new }
     ensures down { IfOk result (λ done. done ≡ true →
         (side_of pair.new.link false).registered ≡ false) }
+    ensures done { IfOk result (λ done. done ≡ true) }
     ensures gives { OnOk result (PairGives pair.old pair.new) }
     ensures credit { OnDrivers pair.old.driver pair.new.driver (λ a b.
         SameCredits a.client b.client) }

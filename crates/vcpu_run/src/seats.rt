@@ -1,5 +1,5 @@
 // What a partition does at its units, one after the other or at one of them.
-ghost use Rattle.std.specs.Prelude.{◌≡◌, ◌<◌, ◌≤◌, ◌∷◌, [], ⊤, ℕ, false, true, IfOk, IfSome, OnOk, Some, IsSomeAnd, length, slice_get};
+ghost use Rattle.std.specs.Prelude.{◌≡◌, ◌⊎◌, ◌<◌, ◌≤◌, ◌∷◌, [], ⊤, ℕ, false, true, IfOk, IfSome, OnOk, Some, IsSomeAnd, length, slice_get};
 ghost use Rattle.vcpu_run.specs.Acts.{TakesRest};
 ghost use Rattle.vcpu_run.specs.ActsAt.{AllLead, FailsOnce, LineActs, PushesEvent, SeatActs};
 ghost use Rattle.vcpu_run.specs.Agreed.{AllSame, SameBeside, SameDrivers, SameElse, StepsLine, StepsSeat};
@@ -14,6 +14,7 @@ ghost use Rattle.vcpu_run.specs.Freed.{FreesNoneIf};
 ghost use Rattle.vcpu_run.specs.Freeing.{IsSpared, is_reset};
 ghost use Rattle.vcpu_run.specs.Holding.{LineOpen, SeatOpen};
 ghost use Rattle.vcpu_run.specs.Links.{ClientWaits, EventWaits, EventsWait, LinksRest, SeatsRest, links_of};
+ghost use Rattle.vcpu_run.specs.Moves.{EventsMove, PairsHandle, SeatHandles, SeatsHandle};
 ghost use Rattle.vcpu_run.specs.Pairs.{AreDriven, IsDriver};
 ghost use Rattle.vcpu_run.specs.PlainScripts.{AllFailPlainly, AllRestPlainly, AllTalkOn, LinePlainly, SeatPlainly};
 ghost use Rattle.vcpu_run.specs.Ports.{HavePorts, IsPortOf};
@@ -45,6 +46,7 @@ use vio_num::{Moved, NoMemory, UnitId};
 pub(crate) fn either(one: Moved, other: Moved) -> Moved
     ensures one { result ≡ Moved.Quiet → one ≡ Moved.Quiet }
     ensures other { result ≡ Moved.Quiet → other ≡ Moved.Quiet }
+    ensures some { result ≡ Moved.Moved → (one ≡ Moved.Moved) ⊎ (other ≡ Moved.Moved) }
 {
     match one {
         Moved::Moved => Moved::Moved,
@@ -63,6 +65,7 @@ fn push_event_of(pairs: &mut [Pair], pair: usize) -> Result<Moved, NoMemory>
     ensures quiet { IfOk result (λ moved. moved ≡ Moved.Quiet → LinksRest pairs.old pairs.new) }
     ensures waits { IfOk result (λ moved. moved ≡ Moved.Quiet →
         IfSome (slice_get pairs.new pair) EventWaits) }
+    ensures moved { IfOk result (λ moved. EventsMove moved pairs.old pairs.new) }
     ensures plainly { OnOk result (AllTalkOn pairs.old pairs.new) }
     ensures acts { OnOk result (AllLead PushesEvent pairs.old pairs.new) }
 {
@@ -80,6 +83,7 @@ fn push_event_at(pairs: &mut [Pair], seat: Seat) -> Result<Moved, NoMemory>
     ensures quiet { IfOk result (λ moved. moved ≡ Moved.Quiet → LinksRest pairs.old pairs.new) }
     ensures waits { IfOk result (λ moved. moved ≡ Moved.Quiet → (k : ℕ) → seat ≡ sits.Client k →
         IfSome (slice_get pairs.new k) EventWaits) }
+    ensures moved { IfOk result (λ moved. EventsMove moved pairs.old pairs.new) }
     ensures plainly { OnOk result (AllTalkOn pairs.old pairs.new) }
     ensures acts { OnOk result (AllLead PushesEvent pairs.old pairs.new) }
 {
@@ -99,6 +103,7 @@ pub(crate) fn push_events(seats: &[Seat], pairs: &mut [Pair]) -> Result<Moved, N
     ensures clients { SameClients pairs.old pairs.new }
     ensures quiet { IfOk result (λ moved. moved ≡ Moved.Quiet → LinksRest pairs.old pairs.new) }
     ensures waits { IfOk result (λ moved. moved ≡ Moved.Quiet → EventsWait seats.now pairs.new) }
+    ensures moved { IfOk result (λ moved. EventsMove moved pairs.old pairs.new) }
     ensures plainly { OnOk result (AllTalkOn pairs.old pairs.new) }
     ensures acts { OnOk result (AllLead PushesEvent pairs.old pairs.new) }
 {
@@ -259,6 +264,7 @@ fn take_rest_of(pairs: &mut [Pair], pair: usize) -> Result<Moved, NoMemory>
     ensures still { IfOk result (λ moved. moved ≡ Moved.Quiet → LinksRest pairs.old pairs.new) }
     ensures waits { IfOk result (λ moved. moved ≡ Moved.Quiet →
         IsSomeAnd (slice_get (links_of pairs.new) pair) ClientWaits) }
+    ensures moved { IfOk result (λ moved. PairsHandle moved pairs.old pairs.new) }
     ensures plainly { OnOk result (AllRestPlainly pairs.old pairs.new) }
     ensures acts { OnOk result (AllLead TakesRest pairs.old pairs.new) }
 {
@@ -291,6 +297,8 @@ fn take_rest_at(
         IsSomeAnd (slice_get (links_of pairs.new) k) ClientWaits) }
     ensures ports { IfOk result (λ moved. moved ≡ Moved.Quiet →
         SeatTaken unit seat lan.old lan.new) }
+    ensures moved { IfOk result (λ moved. SeatHandles moved unit
+        pairs.old pairs.new lan.old lan.new) }
     ensures plainly { OnOk result (AllRestPlainly pairs.old pairs.new) }
     ensures acts { OnOk result (AllLead TakesRest pairs.old pairs.new) }
 {
@@ -326,6 +334,8 @@ pub(crate) fn take_rest(
         SeatsRest seats.now pairs.old pairs.new) }
     ensures ports { IfOk result (λ moved. moved ≡ Moved.Quiet →
         PortsRest partition seats.now lan.old lan.new) }
+    ensures moved { IfOk result (λ moved. SeatsHandle moved partition
+        pairs.old pairs.new lan.old lan.new) }
     ensures plainly { OnOk result (AllRestPlainly pairs.old pairs.new) }
     ensures acts { OnOk result (AllLead TakesRest pairs.old pairs.new) }
 {
@@ -354,6 +364,7 @@ fn fail_of(pairs: &mut [Pair], pair: usize) -> Result<bool, NoMemory>
     ensures shut { AllShut pairs.old pairs.new }
     ensures down { IfOk result (λ done. done ≡ true →
         opens_if (slice_get pairs.new pair) ≡ 0) }
+    ensures done { IfOk result (λ done. done ≡ true) }
     ensures others { SameBeside pair pairs.old pairs.new }
     ensures plainly { OnOk result (AllFailPlainly pairs.old pairs.new) }
     ensures acts { OnOk result (AllLead FailsOnce pairs.old pairs.new) }

@@ -7,6 +7,7 @@ ghost use Rattle.vcpu_run.specs.Credited.{StepsAgreed, taken_in};
 ghost use Rattle.vcpu_run.specs.DropsShown.{IsFullBy, StepFull};
 ghost use Rattle.vcpu_run.specs.EventsHeard.{Hears, StepHears, lost_by};
 ghost use Rattle.vcpu_run.specs.Links.{EndRests};
+ghost use Rattle.vcpu_run.specs.Moves.{HandlesBy};
 ghost use Rattle.vcpu_run.specs.PlainSteps.{RestsPlainly, StepsPlainly, TakesPlainly, own_of};
 ghost use Rattle.vcpu_run.specs.Sendings.{TookOf};
 ghost use Rattle.vcpu_run.specs.Takings.{Gives, StepsTaken, TookTaken};
@@ -93,6 +94,9 @@ impl Driver {
         ensures queue { (C.state crq.new.end).registered ≡ (C.state crq.old.end).registered }
         ensures quiet { IfOk result (λ moved. C.is_shared ≡ false → moved ≡ Moved.Quiet →
             EndRests (C.state crq.old.end) (C.state crq.new.end)) }
+        ensures moved { IfOk result (λ moved. HandlesBy moved
+            (acting self.old C.is_shared (C.state crq.old.end) O.is_shared (O.state own.old))
+            (acting self.new C.is_shared (C.state crq.new.end) O.is_shared (O.state own.new))) }
         ensures plainly { C.is_shared ≡ false → O.is_shared ≡ false → RestsPlainly
             (own_of self.old (C.state crq.old.end) (O.state own.old))
             (own_of self.new (C.state crq.new.end) (O.state own.new)) result }

@@ -193,3 +193,6 @@ returns-in-Parameter-clause-acts c =
 -- the end is not shared
 pub returns-in-Busy-clause-acts : goal.returns-in-Busy-clause-acts
 returns-in-Busy-clause-acts c = absurd (true_false true refl (sym c.in-Busy.ensures.busy.shared_end))
+
+pub returns-in-Busy-clause-done : goal.returns-in-Busy-clause-done
+returns-in-Busy-clause-done c = c.in-Busy.ensures.busy.shared_end

@@ -10,6 +10,8 @@ use Rattle.vcpu_run.proofs.CalmTurns.{calm_link}
 use Rattle.vcpu_run.proofs.PlainPushed.{stands_kept, stands_nothing, stands_put, talks_pushed}
 use Rattle.vcpu_run.specs.ActsAt.{PushesEvent}
 use Rattle.vcpu_run.proofs.ActsSeats.{at_both}
+use Rattle.vio_num.specs.declared.hypervisor.Moved.TheVariants as moves
+use Rattle.vcpu_run.proofs.Moving.{event_pair}
 use Rattle.vcpu_run.proofs.seat.push_event.Goals as goal
 
 pub returns-in_err-reserve-clause-drives : goal.returns-in_err-reserve-clause-drives
@@ -135,3 +137,24 @@ returns-in-Kept-clause-acts c =
     at_both PushesEvent c.side-end.result.first c.push_event.new.self.first (c.side-end.result.link.ghost_name ∷ []) (c.push_event.new.self.link.ghost_name ∷ []) c.side-end.result.link.now
     c.args.pair.now (record c.args.pair.now { link = c.push_event.new.self.link.now }) refl c.side-end.ensures.link c.side-end.ensures.first (ap (λ (p : EndPlace). p.first) place ∙ c.side-end.ensures.first) (ap (λ (p : EndPlace). p.lenders) place)
     (λ a. record { room = state_of c.reserve.new.self; ready = room; pushes = inr (inr (c.in-Kept.number, c.in-Kept.held, c.in-Kept.ensures.still)); rest = rest; own = refl; client = record { client = refl; answers = refl } })
+
+pub returns-in-Nothing-clause-moved : goal.returns-in-Nothing-clause-moved
+returns-in-Nothing-clause-moved c =
+    event_pair moves.Quiet c.side-end.result.first c.push_event.new.self.first (c.side-end.result.link.ghost_name ∷ []) (c.push_event.new.self.link.ghost_name ∷ []) c.side-end.result.link.now
+    c.args.pair.now (record c.args.pair.now { link = c.push_event.new.self.link.now }) (state_of c.reserve.new.self) c.side-end.ensures.link c.side-end.ensures.first
+    (ap (λ (p : EndPlace). p.first) (c.push_event.ensures.rest.place ∙ c.in_ok-reserve.ensures.rest.place) ∙ c.side-end.ensures.first) c.in_ok-reserve.ensures.rest
+    (inr c.in-Nothing.ensures.nothing.kept, λ did. absurd (cc (did)))
+
+pub returns-in-Put-clause-moved : goal.returns-in-Put-clause-moved
+returns-in-Put-clause-moved c =
+    event_pair moves.Moved c.side-end.result.first c.push_event.new.self.first (c.side-end.result.link.ghost_name ∷ []) (c.push_event.new.self.link.ghost_name ∷ []) c.side-end.result.link.now
+    c.args.pair.now (record c.args.pair.now { link = c.push_event.new.self.link.now }) (state_of c.reserve.new.self) c.side-end.ensures.link c.side-end.ensures.first
+    (ap (λ (p : EndPlace). p.first) (c.push_event.ensures.rest.place ∙ c.in_ok-reserve.ensures.rest.place) ∙ c.side-end.ensures.first) c.in_ok-reserve.ensures.rest
+    (inr c.in-Put.ensures.put.kept, λ did. (c.in-Put.ensures.put.some, c.in-Put.ensures.put.kept))
+
+pub returns-in-Kept-clause-moved : goal.returns-in-Kept-clause-moved
+returns-in-Kept-clause-moved c =
+    event_pair moves.Quiet c.side-end.result.first c.push_event.new.self.first (c.side-end.result.link.ghost_name ∷ []) (c.push_event.new.self.link.ghost_name ∷ []) c.side-end.result.link.now
+    c.args.pair.now (record c.args.pair.now { link = c.push_event.new.self.link.now }) (state_of c.reserve.new.self) c.side-end.ensures.link c.side-end.ensures.first
+    (ap (λ (p : EndPlace). p.first) (c.push_event.ensures.rest.place ∙ c.in_ok-reserve.ensures.rest.place) ∙ c.side-end.ensures.first) c.in_ok-reserve.ensures.rest
+    (inl c.in-Kept.ensures.still.kept, λ did. absurd (cc (did)))

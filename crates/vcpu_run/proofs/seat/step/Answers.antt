@@ -25,7 +25,8 @@ returns-clause-takes c =
 pub returns-clause-plainly : goal.returns-clause-plainly
 returns-clause-plainly c =
     pair_plainly c.args.line.now.verb c.args.progress.now c.drive.new.progress c.count_put-before.result c.count_put.result c.args.pair.now c.drive.new.pair c.in_ok-step.step
-    c.moved_since.result c.in_ok-step.ensures.drives c.count_put-before.ensures c.count_put.ensures c.took_no_more.ensures c.moved_since.ensures c.in_ok-step.ensures.plainly
+    c.moved_since.result c.in_ok-step.ensures.drives c.count_put-before.ensures c.count_put.ensures c.took_no_more.ensures c.moved_since.ensures c.in_ok-step.ensures.puts
+    c.in_ok-step.ensures.plainly
 
 pub returns-clause-acts : goal.returns-clause-acts
 returns-clause-acts c =

@@ -1,4 +1,4 @@
-use Rattle.std.proofs.Common.{rules, ◌≡◌, ◌∙◌, ◌∷◌, [], false, OnOk, Some, ap, refl, subst, sym}
+use Rattle.std.proofs.Common.{rules, ◌≡◌, ◌∙◌, ◌∷◌, [], false, IfOk, OnOk, Some, ap, refl, subst, sym}
 use Rattle.crq_session.specs.EndState.{EndPlace}
 use Rattle.crq_session.specs.declared.link.PlainLink.{PlainLink}
 use Rattle.vcpu_run.specs.declared.pair.Pair.{Pair}
@@ -17,6 +17,8 @@ use Rattle.vcpu_run.proofs.PlainSeated.{pair_rests}
 use Rattle.vcpu_run.specs.Acts.{TakesRest}
 use Rattle.vcpu_run.specs.ActsAt.{AtPair}
 use Rattle.vcpu_run.proofs.ActsSeats.{at_pair_ok}
+use Rattle.vcpu_run.specs.Moves.{PairHandlesBy}
+use Rattle.vcpu_run.proofs.Handling.{pair_handles}
 use Rattle.vcpu_run.proofs.seat.take_rest.Goals as goal
 
 pub returns-clause-gives : goal.returns-clause-gives
@@ -79,7 +81,7 @@ returns-clause-plainly c =
     subst (λ (link : PlainLink). OnOk c.take_rest-moved.result (PairRestsPlainly old (pair link))) link_is
     (pair_rests c.side.result.first end.first (lent.ghost_name ∷ []) (end.link.ghost_name ∷ []) lent.now old (pair end.link.now) c.in-Some.driver c.take_rest-moved.new.self
     c.take_rest-moved.result c.in-Some.is refl c.side.ensures.link c.side.ensures.first (ap (λ (p : EndPlace). p.first) c.take_rest-moved.ensures.works.place ∙ c.side.ensures.first) drives
-    (subst (λ (link : PlainLink). TookNoMore (end_of [] link false)) (sym link_is) c.took_no_more.ensures) (c.take_rest-moved.ensures.plainly refl refl))
+    (subst (λ (link : PlainLink). TookNoMore (end_of [] link false)) (sym link_is) c.took_no_more.ensures) (c.take_rest-moved.ensures.plainly refl refl) c.take_rest-moved.ensures.values)
 
 pub returns-clause-acts : goal.returns-clause-acts
 returns-clause-acts c =
@@ -92,3 +94,15 @@ returns-clause-acts c =
     (at_pair_ok TakesRest c.take_rest-moved.result c.side.result.first end.first (lent.ghost_name ∷ []) (end.link.ghost_name ∷ []) lent.now old (pair end.link.now) c.in-Some.driver c.take_rest-moved.new.self
     c.in-Some.is refl c.side.ensures.link c.side.ensures.first (ap (λ (p : EndPlace). p.first) c.take_rest-moved.ensures.works.place ∙ c.side.ensures.first)
     (ap (λ (p : EndPlace). p.lenders) c.take_rest-moved.ensures.works.place) c.take_rest-moved.ensures.acts)
+
+pub returns-clause-moved : goal.returns-clause-moved
+returns-clause-moved c =
+    let old = c.args.pair.now in
+    let end = c.take_rest-moved.new.crq.end in
+    let lent = c.side.result.link in
+    let pair : PlainLink → Pair = λ link. record { server = old.server; link = link; own = old.own; window = c.take_rest-moved.new.own; driver = Some c.take_rest-moved.new.self } in
+    let link_is : end.link.now ≡ c.pair-2-1.given.0 = search rules in
+    subst (λ (link : PlainLink). IfOk c.take_rest-moved.result (λ moved. PairHandlesBy moved old (pair link))) link_is
+    (pair_handles c.take_rest-moved.result c.side.result.first end.first (lent.ghost_name ∷ []) (end.link.ghost_name ∷ []) lent.now old (pair end.link.now) c.in-Some.driver c.take_rest-moved.new.self
+    c.in-Some.is refl c.side.ensures.link c.side.ensures.first (ap (λ (p : EndPlace). p.first) c.take_rest-moved.ensures.works.place ∙ c.side.ensures.first)
+    c.take_rest-moved.ensures.moved)

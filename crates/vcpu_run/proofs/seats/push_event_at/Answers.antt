@@ -8,6 +8,7 @@ use Rattle.vcpu_run.proofs.Elsewhere.{else_one}
 use Rattle.vcpu_run.proofs.PlainSeats.{all_talk_same}
 use Rattle.vcpu_run.specs.ActsAt.{PushesEvent}
 use Rattle.vcpu_run.proofs.ActsPairs.{all_lead_same}
+use Rattle.vcpu_run.proofs.Moving.{events_same}
 use Rattle.vcpu_run.proofs.seats.push_event_at.Goals as goal
 
 pub push_event_of-requires : goal.push_event_of-requires
@@ -37,3 +38,6 @@ returns-in-Server-clause-plainly c = all_talk_same c.args.pairs.now
 
 pub returns-in-Server-clause-acts : goal.returns-in-Server-clause-acts
 returns-in-Server-clause-acts c = all_lead_same PushesEvent c.args.pairs.now
+
+pub returns-in-Server-clause-moved : goal.returns-in-Server-clause-moved
+returns-in-Server-clause-moved c = events_same c.args.pairs.now

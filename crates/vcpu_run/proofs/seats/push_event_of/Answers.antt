@@ -13,6 +13,7 @@ use Rattle.vcpu_run.proofs.DropsKept.{drives_more}
 use Rattle.vcpu_run.proofs.PlainSeats.{all_talk_ok}
 use Rattle.vcpu_run.specs.ActsAt.{PushesEvent}
 use Rattle.vcpu_run.proofs.ActsPairs.{all_lead_ok}
+use Rattle.vcpu_run.proofs.Moving.{event_set}
 use Rattle.vcpu_run.proofs.seats.push_event_of.Goals as goal
 
 pub returns-clause-driven : goal.returns-clause-driven
@@ -62,3 +63,7 @@ returns-clause-plainly c =
 pub returns-clause-acts : goal.returns-clause-acts
 returns-clause-acts c =
     all_lead_ok PushesEvent c.push_event.result c.args.pairs.now c.args.pair _ c.push_event.new.pair (slice_get-get_or c.args.pairs.now c.args.pair _ c.requires) c.push_event.ensures.acts
+
+pub returns-clause-moved : goal.returns-clause-moved
+returns-clause-moved c =
+    event_set c.push_event.result c.args.pairs.now c.args.pair _ c.push_event.new.pair (slice_get-get_or c.args.pairs.now c.args.pair _ c.requires) c.push_event.ensures.moved

@@ -6,6 +6,7 @@ use Rattle.vcpu_run.proofs.Unfreed.{frees_on, frees_same}
 use Rattle.vcpu_run.proofs.Elsewhere.{else_none, else_on, else_within}
 use Rattle.vcpu_run.proofs.ClientsTold.{clients_on, clients_same}
 use Rattle.vcpu_run.proofs.Driving.{driven_on, driven_same, seat_of, seat_within, still_clients}
+use Rattle.vcpu_run.proofs.Moving.{events_on, events_same}
 use Rattle.vcpu_run.proofs.PlainSeats.{all_talk_on, all_talk_same}
 use Rattle.vcpu_run.specs.ActsAt.{PushesEvent}
 use Rattle.vcpu_run.proofs.ActsPairs.{all_lead_on, all_lead_same}
@@ -21,6 +22,8 @@ returns-in_err-here-clause-driven c = driven_on c.args.pairs.now c.loop-k.pairs 
 
 pub loop-k-preserved : goal.loop-k-preserved
 loop-k-preserved c = record {
+  moves = events_on c.loop-k.moved c.in_ok-here.here c.either-moved.result c.args.pairs.now c.loop-k.pairs c.push_event_at.new.pairs c.either-moved.ensures.some
+      c.loop-k.invariant.driven c.push_event_at.ensures.driven c.loop-k.invariant.moves c.in_ok-here.ensures.moved;
   acts = all_lead_on PushesEvent c.args.pairs.now c.loop-k.pairs c.push_event_at.new.pairs c.loop-k.invariant.driven c.loop-k.invariant.acts c.in_ok-here.ensures.acts;
   driven = driven_on c.args.pairs.now c.loop-k.pairs c.push_event_at.new.pairs c.loop-k.invariant.driven c.push_event_at.ensures.driven;
   others = else_on c.args.seats.now c.args.pairs.now c.loop-k.pairs c.push_event_at.new.pairs c.loop-k.invariant.others
@@ -43,6 +46,7 @@ returns-in_err-here-clause-drivers c = (λ k. c.push_event_at.ensures.drivers k 
 
 pub loop-k-init : goal.loop-k-init
 loop-k-init c = record {
+  moves = events_same c.args.pairs.now;
   acts = all_lead_same PushesEvent c.args.pairs.now;
   driven = driven_same c.args.pairs.now;
   others = else_none c.args.seats.now c.args.pairs.now;

@@ -5,6 +5,7 @@ use Rattle.vio_num.specs.declared.hypervisor.Moved.TheVariants.{Quiet}
 use Rattle.vcpu_run.specs.Freed.{FreesNoneIf}
 use Rattle.vcpu_run.specs.Links.{EventWaits, LinksRest}
 use Rattle.vcpu_run.specs.Agreed.{SameDrivers, SameElse}
+use Rattle.vcpu_run.specs.Moves.{EventsMove}
 use Rattle.vcpu_run.specs.Pairs.{AreDriven}
 use Rattle.vcpu_run.specs.PlainScripts.{AllTalkOn}
 use Rattle.vcpu_run.specs.ScriptTold.{SameClients}
@@ -24,4 +25,5 @@ invariant-loop-k l = record {
   rest : l.moved ≡ Quiet → LinksRest l.initial.pairs l.pairs;
   wait : l.moved ≡ Quiet → (u k : ℕ) → u < l.k → slice_get l.seats u ≡ Some (sits.Client k) → IfSome (slice_get l.pairs k) EventWaits;
   acts : AllLead PushesEvent l.initial.pairs l.pairs;
+  moves : EventsMove l.moved l.initial.pairs l.pairs;
 }

@@ -15,6 +15,7 @@ use Rattle.vcpu_run.proofs.PortTelling.{idle_takes}
 use Rattle.vcpu_run.proofs.GivesAll.{all_give_on, all_give_same}
 use Rattle.vcpu_run.proofs.PortsResting.{ports_same, taken_all, taken_next}
 use Rattle.lan_script.proofs.Laws.{ports_on}
+use Rattle.vcpu_run.proofs.Moving.{seats_none, seats_on}
 use Rattle.vcpu_run.proofs.PlainSeats.{all_rest_on, all_rest_same}
 use Rattle.vcpu_run.specs.Acts.{TakesRest}
 use Rattle.vcpu_run.proofs.ActsPairs.{all_lead_on, all_lead_same}
@@ -39,6 +40,10 @@ returns-in_err-here-clause-others c =
 
 pub loop-k-preserved : goal.loop-k-preserved
 loop-k-preserved c = record {
+  moves = seats_on c.loop-k.moved c.in_ok-here.here c.either-moved.result c.args.partition c.loop-k.k c.args.pairs.now c.loop-k.pairs c.take_rest_at.new.pairs c.args.lan.now c.loop-k.lan c.take_rest_at.new.lan
+      c.either-moved.ensures.some c.loop-k.invariant.driven c.take_rest_at.ensures.driven c.loop-k.invariant.takes
+      (one_takes c.args.partition c.loop-k.k c.loop-k.lan c.take_rest_at.new.lan c.in_ok-here.ensures.takes c.in_ok-here.ensures.beside)
+      c.loop-k.invariant.moves c.in_ok-here.ensures.moved;
   acts = all_lead_on TakesRest c.args.pairs.now c.loop-k.pairs c.take_rest_at.new.pairs c.loop-k.invariant.driven c.loop-k.invariant.acts c.in_ok-here.ensures.acts;
   driven = driven_on c.args.pairs.now c.loop-k.pairs c.take_rest_at.new.pairs c.loop-k.invariant.driven c.take_rest_at.ensures.driven;
   gives = all_give_on c.args.pairs.now c.loop-k.pairs c.take_rest_at.new.pairs c.loop-k.invariant.gives c.in_ok-here.ensures.gives;
@@ -81,6 +86,7 @@ returns-clause-quiet c = λ is. record {
 
 pub loop-k-init : goal.loop-k-init
 loop-k-init c = record {
+  moves = seats_none c.args.partition c.args.pairs.now c.args.lan.now;
   acts = all_lead_same TakesRest c.args.pairs.now;
   driven = driven_same c.args.pairs.now;
   gives = all_give_same c.args.pairs.now;

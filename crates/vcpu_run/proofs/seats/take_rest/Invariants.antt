@@ -7,6 +7,7 @@ use Rattle.vcpu_run.specs.declared.unit_seat.Seat.TheVariants as sits
 use Rattle.vcpu_run.specs.Freed.{FreesNoneIf}
 use Rattle.vcpu_run.specs.Links.{ClientWaits, LinksRest, links_of}
 use Rattle.vcpu_run.specs.Agreed.{SameElse}
+use Rattle.vcpu_run.specs.Moves.{SeatsHandle}
 use Rattle.vcpu_run.specs.Pairs.{AreDriven}
 use Rattle.vcpu_run.specs.Ports.{HavePorts}
 use Rattle.vcpu_run.specs.PortSteps.{AllTake, IsApart}
@@ -42,4 +43,5 @@ invariant-loop-k l = record {
   rest : l.moved ≡ Quiet → LinksRest l.initial.pairs l.pairs;
   wait : l.moved ≡ Quiet → (u k : ℕ) → u < l.k → slice_get l.seats u ≡ Some (sits.Client k) → IsSomeAnd (slice_get (links_of l.pairs) k) ClientWaits;
   acts : AllLead TakesRest l.initial.pairs l.pairs;
+  moves : SeatsHandle l.moved l.partition l.initial.pairs l.pairs l.initial.lan l.lan;
 }

@@ -4,7 +4,8 @@ use Rattle.vcpu_run.proofs.Resting.{ok_more}
 use Rattle.std.proofs.Common.{◌∷◌, [], Some, ap, subst, IsSomeAnd, slice_get, ℕ, sym, ◌∙◌, ◌≡◌}
 use Rattle.vcpu_run.proofs.Driving.{seat_within}
 use Rattle.vcpu_run.proofs.Elsewhere.{else_one}
-use Rattle.vcpu_run.proofs.PortTurns.{port_rest, rest_beside}
+use Rattle.vcpu_run.proofs.PortTelling.{idle_takes}
+use Rattle.vcpu_run.proofs.PortTurns.{idle_same, port_rest, rest_beside}
 use Rattle.vcpu_run.proofs.Crediting.{on_ok}
 use Rattle.vcpu_run.proofs.GivesAll.{all_give_same}
 use Rattle.vcpu_run.proofs.PortsResting.{ok_any, seat_none, seat_port}
@@ -14,6 +15,7 @@ use Rattle.vcpu_run.proofs.ClientsLay.{none_lay_same}
 use Rattle.vcpu_run.proofs.PlainSeats.{all_rest_same}
 use Rattle.vcpu_run.specs.Acts.{TakesRest}
 use Rattle.vcpu_run.proofs.ActsPairs.{all_lead_same}
+use Rattle.vcpu_run.proofs.Moving.{client_handles, port_handles, server_handles}
 use Rattle.vcpu_run.proofs.seats.take_rest_at.Goals as goal
 
 pub take_rest_of-requires-clause-there : goal.take_rest_of-requires-clause-there
@@ -34,6 +36,10 @@ returns-in-Client-clause-waits c =
   where
     client_here : (j k : ℕ) → sits.Client j ≡ sits.Client k → j ≡ k
     client_here j k e = cc
+
+pub returns-in-Client-clause-takes : goal.returns-in-Client-clause-takes
+returns-in-Client-clause-takes c =
+    on_ok c.take_rest_of.result _ (idle_takes c.args.lan.now c.args.lan.now c.args.unit (idle_same c.args.lan.now c.args.unit))
 
 pub returns-in-Port-clause-takes : goal.returns-in-Port-clause-takes
 returns-in-Port-clause-takes c = port_rest c.args.unit c.take_rest.result c.args.lan.now c.take_rest.new.self c.take_rest.ensures.seats c.take_rest.ensures.frames c.take_rest.ensures.counts
@@ -89,3 +95,12 @@ returns-in-Server-clause-acts c = all_lead_same TakesRest c.args.pairs.now
 
 pub returns-in-Port-clause-acts : goal.returns-in-Port-clause-acts
 returns-in-Port-clause-acts c = on_ok c.take_rest.result _ (all_lead_same TakesRest c.args.pairs.now)
+
+pub returns-in-Client-clause-moved : goal.returns-in-Client-clause-moved
+returns-in-Client-clause-moved c = client_handles c.take_rest_of.result c.args.unit c.args.pairs.now c.take_rest_of.new.pairs c.args.lan.now c.take_rest_of.ensures.moved
+
+pub returns-in-Port-clause-moved : goal.returns-in-Port-clause-moved
+returns-in-Port-clause-moved c = port_handles c.take_rest.result c.args.unit c.args.pairs.now c.args.lan.now c.take_rest.new.self c.take_rest.ensures.moved
+
+pub returns-in-Server-clause-moved : goal.returns-in-Server-clause-moved
+returns-in-Server-clause-moved c = server_handles c.args.unit c.args.pairs.now c.args.lan.now

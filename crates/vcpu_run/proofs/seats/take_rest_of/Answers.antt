@@ -12,6 +12,7 @@ use Rattle.vcpu_run.proofs.CalmTurns.{calm_set}
 use Rattle.vcpu_run.proofs.PlainSeats.{all_rest_ok}
 use Rattle.vcpu_run.specs.Acts.{TakesRest}
 use Rattle.vcpu_run.proofs.ActsPairs.{all_lead_ok}
+use Rattle.vcpu_run.proofs.Moving.{handles_set}
 use Rattle.vcpu_run.proofs.seats.take_rest_of.Goals as goal
 
 pub take_rest-requires : goal.take_rest-requires
@@ -65,3 +66,7 @@ returns-clause-plainly c =
 pub returns-clause-acts : goal.returns-clause-acts
 returns-clause-acts c =
     all_lead_ok TakesRest c.take_rest.result c.args.pairs.now c.args.pair _ c.take_rest.new.pair (slice_get-get_or c.args.pairs.now c.args.pair _ c.requires.there) c.take_rest.ensures.acts
+
+pub returns-clause-moved : goal.returns-clause-moved
+returns-clause-moved c =
+    handles_set c.take_rest.result c.args.pairs.now c.args.pair _ c.take_rest.new.pair (slice_get-get_or c.args.pairs.now c.args.pair _ c.requires.there) c.take_rest.ensures.moved

@@ -1,7 +1,8 @@
 use Rattle.vcpu_run.proofs.Resting.{not_quiet}
 use Rattle.vcpu_run.specs.Links.{EndRests}
+use Rattle.crq_session.specs.Control.{IsQueueSize}
 use Rattle.crq_session.specs.EndState.{EndState}
-use Rattle.std.proofs.Common.{rules, ◌≡◌, ◌≤◌, ◌∙◌, Err, false, refl, sym, subst}
+use Rattle.std.proofs.Common.{arith, rules, ◌≡◌, ◌<◌, ◌≤◌, ◌∙◌, Err, false, refl, sym, subst}
 use Rattle.tce_window.specs.PortState.{PortPlace}
 use Rattle.vscsi_client.specs.declared.TheConstants.{MIN_PAGES}
 use Rattle.vcpu_run.proofs.Working.{works_on, works_same}
@@ -10,6 +11,9 @@ use Rattle.vcpu_run.specs.PlainSteps.{own_of}
 use Rattle.vcpu_run.proofs.PlainRest.{rests_err, rests_more, rests_none}
 use Rattle.vcpu_run.specs.Acts.{acting}
 use Rattle.vcpu_run.proofs.ActsTaking.{rest_more, rest_none}
+use Rattle.vcpu_run.specs.Acts.{TakesOnce}
+use Rattle.vcpu_run.specs.declared.taking.Took.{Took}
+use Rattle.vcpu_run.proofs.Handling.{handled_all, handled_slots, handled_used, handling_more, handling_none, one_handled}
 use Rattle.vcpu_run.proofs.driver.Driver.take_rest.Goals as goal
 
 pub returns-in_err-take_one-clause-works : goal.returns-in_err-take_one-clause-works
@@ -30,6 +34,10 @@ loop-taken-preserved g c = record {
       (own_of c.loop-taken.self (g.C.CrqEnd.state c.loop-taken.crq.end) (g.O.WindowPort.state c.loop-taken.own))
       (own_of c.take_one.new.self (g.C.CrqEnd.state c.take_one.new.crq.end) (g.O.WindowPort.state c.take_one.new.own)) _ (c.loop-taken.invariant.plainly crq_alone own_alone) (c.in_ok-take_one.ensures.plainly crq_alone own_alone);
   fresh = λ is. absurd (not_quiet is);
+  handles = handling_more c.loop-taken.moved c.loop-taken._taken _ (acting c.args.self.now g.C.CrqEnd.is_shared (g.C.CrqEnd.state c.args.crq.now.end) g.O.WindowPort.is_shared (g.O.WindowPort.state c.args.own.now))
+      (acting c.loop-taken.self g.C.CrqEnd.is_shared (g.C.CrqEnd.state c.loop-taken.crq.end) g.O.WindowPort.is_shared (g.O.WindowPort.state c.loop-taken.own))
+      (acting c.take_one.new.self g.C.CrqEnd.is_shared (g.C.CrqEnd.state c.take_one.new.crq.end) g.O.WindowPort.is_shared (g.O.WindowPort.state c.take_one.new.own)) (one_handled c.in_ok-take_one.field-0 c.in-Answer.is)
+      c.loop-taken.invariant.handles c.in_ok-take_one.ensures.acts;
   acts = rest_more (acting c.args.self.now g.C.CrqEnd.is_shared (g.C.CrqEnd.state c.args.crq.now.end) g.O.WindowPort.is_shared (g.O.WindowPort.state c.args.own.now))
       (acting c.loop-taken.self g.C.CrqEnd.is_shared (g.C.CrqEnd.state c.loop-taken.crq.end) g.O.WindowPort.is_shared (g.O.WindowPort.state c.loop-taken.own))
       (acting c.take_one.new.self g.C.CrqEnd.is_shared (g.C.CrqEnd.state c.take_one.new.crq.end) g.O.WindowPort.is_shared (g.O.WindowPort.state c.take_one.new.own)) _ c.loop-taken.invariant.acts c.in_ok-take_one.ensures.acts;
@@ -67,6 +75,7 @@ loop-taken-init g c = record {
   gives = gives_same c.args.self.now (g.C.CrqEnd.state c.args.crq.now.end);
   plainly = λ crq_alone own_alone. rests_none (own_of c.args.self.now (g.C.CrqEnd.state c.args.crq.now.end) (g.O.WindowPort.state c.args.own.now));
   fresh = λ is. refl;
+  handles = handling_none (acting c.args.self.now g.C.CrqEnd.is_shared (g.C.CrqEnd.state c.args.crq.now.end) g.O.WindowPort.is_shared (g.O.WindowPort.state c.args.own.now));
   acts = rest_none (acting c.args.self.now g.C.CrqEnd.is_shared (g.C.CrqEnd.state c.args.crq.now.end) g.O.WindowPort.is_shared (g.O.WindowPort.state c.args.own.now));
 }
 
@@ -103,3 +112,30 @@ returns-in-InUse-clause-acts g c =
     rest_more (acting c.args.self.now g.C.CrqEnd.is_shared (g.C.CrqEnd.state c.args.crq.now.end) g.O.WindowPort.is_shared (g.O.WindowPort.state c.args.own.now))
     (acting c.loop-taken.self g.C.CrqEnd.is_shared (g.C.CrqEnd.state c.loop-taken.crq.end) g.O.WindowPort.is_shared (g.O.WindowPort.state c.loop-taken.own))
     (acting c.take_one.new.self g.C.CrqEnd.is_shared (g.C.CrqEnd.state c.take_one.new.crq.end) g.O.WindowPort.is_shared (g.O.WindowPort.state c.take_one.new.own)) _ c.loop-taken.invariant.acts c.in_ok-take_one.ensures.acts
+
+pub returns-in-Nothing-clause-moved : goal.returns-in-Nothing-clause-moved
+returns-in-Nothing-clause-moved g c =
+    handled_all c.loop-taken.moved c.loop-taken._taken (acting c.args.self.now g.C.CrqEnd.is_shared (g.C.CrqEnd.state c.args.crq.now.end) g.O.WindowPort.is_shared (g.O.WindowPort.state c.args.own.now))
+    (acting c.loop-taken.self g.C.CrqEnd.is_shared (g.C.CrqEnd.state c.loop-taken.crq.end) g.O.WindowPort.is_shared (g.O.WindowPort.state c.loop-taken.own))
+    (acting c.take_one.new.self g.C.CrqEnd.is_shared (g.C.CrqEnd.state c.take_one.new.crq.end) g.O.WindowPort.is_shared (g.O.WindowPort.state c.take_one.new.own)) c.loop-taken.invariant.handles
+    (subst (λ (took : Took). TakesOnce took
+    (acting c.loop-taken.self g.C.CrqEnd.is_shared (g.C.CrqEnd.state c.loop-taken.crq.end) g.O.WindowPort.is_shared (g.O.WindowPort.state c.loop-taken.own))
+    (acting c.take_one.new.self g.C.CrqEnd.is_shared (g.C.CrqEnd.state c.take_one.new.crq.end) g.O.WindowPort.is_shared (g.O.WindowPort.state c.take_one.new.own))) c.in-Nothing.is c.in_ok-take_one.ensures.acts)
+
+pub returns-in-InUse-clause-moved : goal.returns-in-InUse-clause-moved
+returns-in-InUse-clause-moved g c =
+    handled_used c.loop-taken.moved _ c.loop-taken._taken (acting c.args.self.now g.C.CrqEnd.is_shared (g.C.CrqEnd.state c.args.crq.now.end) g.O.WindowPort.is_shared (g.O.WindowPort.state c.args.own.now))
+    (acting c.loop-taken.self g.C.CrqEnd.is_shared (g.C.CrqEnd.state c.loop-taken.crq.end) g.O.WindowPort.is_shared (g.O.WindowPort.state c.loop-taken.own))
+    (acting c.take_one.new.self g.C.CrqEnd.is_shared (g.C.CrqEnd.state c.take_one.new.crq.end) g.O.WindowPort.is_shared (g.O.WindowPort.state c.take_one.new.own)) c.loop-taken.invariant.handles
+    (subst (λ (took : Took). TakesOnce took
+    (acting c.loop-taken.self g.C.CrqEnd.is_shared (g.C.CrqEnd.state c.loop-taken.crq.end) g.O.WindowPort.is_shared (g.O.WindowPort.state c.loop-taken.own))
+    (acting c.take_one.new.self g.C.CrqEnd.is_shared (g.C.CrqEnd.state c.take_one.new.crq.end) g.O.WindowPort.is_shared (g.O.WindowPort.state c.take_one.new.own))) c.in-InUse.is c.in_ok-take_one.ensures.acts)
+    refl c.loop-taken.invariant.works.window
+
+pub returns-clause-moved : goal.returns-clause-moved
+returns-clause-moved g c =
+    handled_slots c.loop-taken.moved _ c.loop-taken._taken (acting c.args.self.now g.C.CrqEnd.is_shared (g.C.CrqEnd.state c.args.crq.now.end) g.O.WindowPort.is_shared (g.O.WindowPort.state c.args.own.now))
+    (acting c.loop-taken.self g.C.CrqEnd.is_shared (g.C.CrqEnd.state c.loop-taken.crq.end) g.O.WindowPort.is_shared (g.O.WindowPort.state c.loop-taken.own)) (full c.slots-taken-end.ensures.size) c.loop-taken.invariant.handles
+  where
+    full : IsQueueSize c.slots-taken-end.result → 0 < c.loop-taken._taken
+    full size = let some = size.some in omega (arith, some, c.loop-taken-test.false)

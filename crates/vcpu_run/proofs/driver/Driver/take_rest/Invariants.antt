@@ -4,6 +4,7 @@ use Rattle.vscsi_client.specs.declared.TheConstants.{MIN_PAGES}
 use Rattle.vcpu_run.specs.PlainSteps.{own_of}
 use Rattle.vcpu_run.specs.Takings.{Gives}
 use Rattle.vcpu_run.specs.Works.{Works}
+use Rattle.vcpu_run.proofs.Handling.{HandlingSo}
 use Rattle.vcpu_run.proofs.PlainRest.{RestsSoFar}
 use Rattle.vcpu_run.specs.Acts.{TakesRest, acting}
 use Rattle.vcpu_run.proofs.driver.Driver.take_rest.Given as goal
@@ -19,5 +20,7 @@ invariant-loop-taken g l = record {
       (own_of l.self (g.C.CrqEnd.state l.crq.end) (g.O.WindowPort.state l.own));
   fresh : l.moved ≡ Quiet → g.C.CrqEnd.state l.crq.end ≡ g.C.CrqEnd.state l.initial.crq.end;
   acts : TakesRest (acting l.initial.self g.C.CrqEnd.is_shared (g.C.CrqEnd.state l.initial.crq.end) g.O.WindowPort.is_shared (g.O.WindowPort.state l.initial.own))
+      (acting l.self g.C.CrqEnd.is_shared (g.C.CrqEnd.state l.crq.end) g.O.WindowPort.is_shared (g.O.WindowPort.state l.own));
+  handles : HandlingSo l.moved l._taken (acting l.initial.self g.C.CrqEnd.is_shared (g.C.CrqEnd.state l.initial.crq.end) g.O.WindowPort.is_shared (g.O.WindowPort.state l.initial.own))
       (acting l.self g.C.CrqEnd.is_shared (g.C.CrqEnd.state l.crq.end) g.O.WindowPort.is_shared (g.O.WindowPort.state l.own));
 }
