@@ -1,5 +1,5 @@
 -- What the calls of a turn do before an entry is heard: the kept event is put, a session is freed, and the queue registered.
-use Rattle.std.proofs.Common.{◌≡◌, ◌⊎◌, inl, inr, ◌++◌, Bool, true, false, List, [], ◌∷◌, ℕ, Option, Some, None, IfSome, IsSome, Result, Ok, Err, OnOk, slice_get, slice_set, drop, length, cond, refl, sym, ◌∙◌, ap, subst, append-nil}
+use Rattle.std.proofs.Common.{◌≡◌, ◌⊎◌, inl, inr, ◌++◌, ◌&&◌, Bool, true, false, List, [], ◌∷◌, ℕ, Option, Some, None, IfSome, IsSome, Result, Ok, Err, OnOk, slice_get, slice_set, drop, length, cond, refl, sym, ◌∙◌, ap, subst, append-nil}
 use Rattle.vio_num.specs.Entry.{initialize, partner_freed}
 use Rattle.vio_num.specs.declared.entry.Entry.{Entry}
 use Rattle.vio_num.specs.declared.history.Grant.{Grant}
@@ -39,6 +39,8 @@ aside_call : (unit : Unit) (line : Line) (moved : Bool) (old new : SiteState) (r
 aside_call unit line moved old new records windows = record {
   served = record { stage = refl; answer = refl; pending = refl };
   logins = refl;
+  taking = refl;
+  outstanding = refl;
   waiting = refl;
   client = record { place = λ i. (windows.client i).place; strokes = λ i. (windows.client i).strokes; values = λ i. (windows.client i).values };
   rows = refl;
@@ -209,6 +211,8 @@ opens_line link unit old mid records new alone down windows rest opened reply = 
   aside = record {
     served = record { stage = reply.aside.served.stage; answer = reply.aside.served.answer; pending = reply.aside.served.pending };
     logins = reply.aside.logins;
+    taking = reply.aside.taking;
+    outstanding = reply.aside.outstanding;
     waiting = reply.aside.waiting;
     client = record {
       place = reply.aside.client.place ∙ (λ i. (windows.client i).place);
@@ -222,6 +226,7 @@ opens_line link unit old mid records new alone down windows rest opened reply = 
   coming = reply.coming ∙ come_none mid.queue opened.none_taken (opened.none_received alone);
   ended = reply.line.ended;
   handshake = reply.line.handshake;
+  reached = reply.line.reaches ∙ ap (λ (b : Bool). b && mid.queue.place.partner_registered) opened.registered ∙ sym reply.stays.partner;
   event = reply.line.event ∙ opened.kept;
   sent = by reply.sent;
 }
@@ -234,9 +239,9 @@ opens_line link unit old mid records new alone down windows rest opened reply = 
 
     by : SendsOrKeeps (begun (doing unit mid records)) new initialize
         → ((new.sent ≡ (old.queue.sent ++ rows_to old.queue.counts.partner_session (event_put old.queue.place.partner_registered old.queue.kept)) ++ cond new.reaches (rows_to old.queue.counts.partner_session (initialize ∷ [])) []) × (new.kept ≡ unit.line.kept))
-        ⊎ ((new.sent ≡ old.queue.sent ++ rows_to old.queue.counts.partner_session (event_put old.queue.place.partner_registered old.queue.kept)) × (new.kept ≡ Some (keeps.Reply initialize)))
+        ⊎ ((new.reaches ≡ true) × (new.sent ≡ old.queue.sent ++ rows_to old.queue.counts.partner_session (event_put old.queue.place.partner_registered old.queue.kept)) × (new.kept ≡ Some (keeps.Reply initialize)))
     by (inl (sent, kept)) = inl (sent ∙ (λ i. told i ++ cond (sym reply.line.reaches i) (rows_to (to i) (initialize ∷ [])) []), kept)
-    by (inr (reach, same, kept)) = inr (same ∙ told, kept)
+    by (inr (reach, same, kept)) = inr (reply.line.reaches ∙ reach, same ∙ told, kept)
 
 -- REST --------------------------------------------------------------------------------------------
 
@@ -265,9 +270,9 @@ rests_opened a b opens free = record {
   kept = none opens.sent;
 }
   where
-    none : {P Q : Type 0} → (P × (b.kept ≡ a.kept)) ⊎ (Q × (b.kept ≡ Some (keeps.Reply initialize))) → KeepsNoAnswer b.kept
+    none : {P Q R : Type 0} → (P × (b.kept ≡ a.kept)) ⊎ (R × Q × (b.kept ≡ Some (keeps.Reply initialize))) → KeepsNoAnswer b.kept
     none (inl same) = subst KeepsNoAnswer (sym same.1) free.kept
-    none (inr reply) = subst KeepsNoAnswer (sym reply.1) refl
+    none (inr reply) = subst KeepsNoAnswer (sym reply.2) refl
 
 -- where nothing more is taken in the session, and where nothing is kept
 free_ended : (at : Doing) → at.ended ≡ true → IsAtRest at → IsFree at

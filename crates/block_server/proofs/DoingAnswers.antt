@@ -14,9 +14,9 @@ use Rattle.rdma_copy.specs.Copies.{MayHold}
 use Rattle.block_server.specs.Advances.{Advances}
 use Rattle.block_server.specs.Bearing.{BearsIn, IsAnswerPart}
 use Rattle.block_server.specs.Copied.{own_name}
-use Rattle.block_server.specs.Doings.{DoesOne, DoesTurn, Doing, DropsAll, IsAtRest, IsFree, KeepsEntry, KeepsNoAnswer, LosesEntry, PutsEntry, SettlesLogin, SendsKept, StaysLine, StaysUnit, WritesAnswer, doing, entry_for}
+use Rattle.block_server.specs.Doings.{DoesOne, DoesTurn, Doing, DropsAll, IsAtRest, IsFree, IsNewLogin, KeepsEntry, KeepsNoAnswer, LosesEntry, PutsEntry, SettlesLogin, SendsKept, StaysLine, StaysUnit, WritesAnswer, doing, entry_for}
 use Rattle.block_server.specs.Ends.{EndsLogin}
-use Rattle.block_server.specs.Granting.{login_state}
+use Rattle.block_server.specs.Granting.{LoginState, login_state}
 use Rattle.block_server.specs.Ranges.{Known, client_known, known_in, seen_in}
 use Rattle.block_server.specs.Receipts.{Standing, is_down, is_ended, standing_of}
 use Rattle.block_server.specs.Serving.{LeavesRow, SettlesRow}
@@ -151,6 +151,14 @@ settled_as (outcomes.Granted number) id session logins logins' lines lines' begi
 settled_as outcomes.Rejected id session logins logins' lines lines' same added = (ap login_state same, added ∙ append-nil lines)
 settled_as (outcomes.Served row) id session logins logins' lines lines' counts added = (λ i. record { granted = counts.granted i; current = counts.current i }, added ∙ append-nil lines)
 
+-- a login that is granted is on, and takes requests
+new_login : (outcome : Outcome) (logins logins' : Logins) (new : Doing) → SettlesLogins outcome logins logins' → new.logins ≡ login_state logins' → new.taking ≡ logins'.taking
+    → new.outstanding ≡ logins'.target.outstanding → IsNewLogin outcome new
+new_login (outcomes.Granted number) logins logins' new begins on takes few =
+    (λ none. omega (arith, none, ap (λ (l : LoginState). l.current) on, begins.current), takes ∙ begins.taking, few ∙ begins.outstanding)
+new_login outcomes.Rejected logins logins' new same on takes few = tt
+new_login (outcomes.Served row) logins logins' new counts on takes few = tt
+
 -- It was put, and the request is served.
 pub puts_entry : (link : Bool) (unit unit' : Unit) (old new : SiteState) (records records' : Records) (outcome : Outcome) (request : Request) (rest : List Request) (session : ℕ) (entry : Entry)
     → link ≡ false → unit.service.stage ≡ stages.Entry outcome → unit.pending.items ≡ request ∷ rest → entry ≡ entry_for request unit.service.answer.items
@@ -174,6 +182,7 @@ puts_entry link unit unit' old new records records' outcome request rest session
   sent = subst (PutsOrLoses old.queue new.queue) entry_is sent;
   rows = row;
   logins = settled_as outcome unit.id session unit.logins unit'.logins records.grants.items records'.grants.items logins lines;
+  begins = new_login outcome unit.logins unit'.logins (doing unit' new records') logins refl refl refl;
 }
 
 -- It met a closed queue.

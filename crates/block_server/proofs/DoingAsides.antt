@@ -58,6 +58,8 @@ sends_kept link unit old new records entry alone was rest own client sent = reco
   aside = record {
     served = record { stage = refl; answer = refl; pending = refl };
     logins = refl;
+    taking = refl;
+    outstanding = refl;
     waiting = refl;
     client = known_equal old.client new.client client;
     rows = refl;

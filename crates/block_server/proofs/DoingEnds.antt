@@ -68,13 +68,13 @@ drops_heard arrival unit unit' name name' queue queue' client client' records re
 -- The login ended for an event that was heard, before which the handshake and whether the session is over were these.
 pub drops_lost : (arrival : Arrival) (was : Handshake) (ended : Bool) (unit unit' : Unit) (name : UnitId) (queue : EndState) (client : PortState) (records records' : Records) (session : ℕ) (cause : Lapse) (outstanding granted : ℕ)
     → unit.service.stage ≡ stages.Start → EndsLogin unit unit' records records' session cause outstanding granted → unit'.id ≡ unit.id → unit'.service.stage ≡ stages.Start → records'.history.items ≡ records.history.items
-    → kind_of (first_byte arrival.entry) ≡ Event → unit'.line.handshake ≡ state_after was arrival.entry → is_ended unit'.line ≡ ended
+    → kind_of (first_byte arrival.entry) ≡ Event → unit'.line.handshake ≡ state_after was arrival.entry → is_ended unit'.line ≡ ended → unit.line.kept ≡ None
     → DropsAll (before_hearing arrival (record (doing_at unit name queue client records.history.items records.grants.items) { handshake = was; ended = ended })) (doing_at unit' name queue client records'.history.items records'.grants.items)
-drops_lost arrival was ended unit unit' name queue client records records' session cause outstanding granted start ends id stage rows kind handshake still = record {
+drops_lost arrival was ended unit unit' name queue client records records' session cause outstanding granted start ends id stage rows kind handshake still none = record {
   stays = record { name = refl; id = id; granted = ends.as_many; partner = refl; to = refl };
   event = refl;
   reaches = refl;
-  why = inl (record { entry = arrival.entry; heard = refl; kind = kind; handshake = handshake; ended = still });
+  why = inl (record { was = none; entry = arrival.entry; heard = refl; kind = kind; handshake = handshake; ended = still });
   put = record { sent = refl; client = known_same client; rows = rows };
   unanswered = λ outcome. start_unanswered unit.service.stage outcome start;
   stage = stage;

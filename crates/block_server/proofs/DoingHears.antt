@@ -6,21 +6,24 @@ use Rattle.byteorder.specs.Numbers.{big_number-reads_back}
 use Rattle.vio_num.specs.Entry.{entry_format, first_byte, is_srp_entry, iu_address, iu_length, kind_of}
 use Rattle.vio_num.specs.declared.entry.Entry.{Entry}
 use Rattle.vio_num.specs.declared.entry.Kind.TheVariants.{Command, Event, Init}
+use Rattle.vio_num.specs.declared.history.Lapse.{Lapse}
 use Rattle.crq_ring.specs.Sessions.{of_session}
 use Rattle.crq_ring.specs.declared.rows.PipeRow.{PipeRow}
 use Rattle.crq_session.specs.EndState.{EndCounts, OnlyReserves, OnlyTakes}
 use Rattle.crq_session.specs.Handshake.{state_after, step_after, step_entry}
 use Rattle.crq_session.specs.declared.handshake.Handshake.{Handshake}
 use Rattle.crq_session.specs.declared.handshake.Handshake.TheVariants.{Up}
+use Rattle.srp_iu.specs.Grammar.{Spells}
+use Rattle.srp_iu.specs.declared.unit.Iu.{Iu}
 use Rattle.block_server.specs.Doings.{AsksNothing, DoesFreely, DoesOne, Doing, DropsAll, HearsDatagram, HearsInit, IsFree, IsOnLogin, KeepsNoAnswer, PassesEntry, SendsOrKeeps, SendsReply, TakesRequest, before_hearing, doing}
-use Rattle.block_server.specs.Decided.{Decides, DecidesOrder}
+use Rattle.block_server.specs.Decided.{Decides, DecidesOrder, StaysOn}
 use Rattle.block_server.specs.Entries.{datagram_answer}
 use Rattle.block_server.specs.Granting.{LoginState}
 use Rattle.block_server.specs.Receipts.{is_down}
 use Rattle.block_server.specs.SiteState.{SiteState}
-use Rattle.block_server.specs.Talk.{IsReadWhole, StaysKnown, to_come}
+use Rattle.block_server.specs.Talk.{IsReadWhole, StaysKnown, order_asked, tag_asked, to_come}
 use Rattle.block_server.specs.declared.intake.Verdict.{Verdict}
-use Rattle.block_server.specs.declared.intake.Verdict.TheVariants.{Accepted, Ignored}
+use Rattle.block_server.specs.declared.intake.Verdict.TheVariants.{Accepted, Fatal, Ignored}
 use Rattle.block_server.specs.declared.logins.Logins.{Logins}
 use Rattle.block_server.specs.declared.records.Records.{Records}
 use Rattle.block_server.specs.declared.request.Arrival.{Arrival}
@@ -51,22 +54,25 @@ came_doing unit old new records arrival waits came kept client own = λ i. recor
 }
 
 -- The entry was heard, and nothing is due for it.
-pub passes_entry : (arrival : Arrival) (at new : Doing) → new.name ≡ at.name → new.id ≡ at.id → new.partner ≡ at.partner → new.to ≡ at.to → new.logins ≡ at.logins → new.waiting ≡ None
-    → new.stage ≡ at.stage → new.answer ≡ at.answer → new.pending ≡ at.pending → new.ended ≡ at.ended → new.handshake ≡ at.handshake → new.event ≡ at.event → new.reaches ≡ at.reaches
+pub passes_entry : (arrival : Arrival) (at new : Doing) → new.name ≡ at.name → new.id ≡ at.id → new.partner ≡ at.partner → new.to ≡ at.to → new.logins ≡ at.logins → new.taking ≡ at.taking → new.outstanding ≡ at.outstanding → new.waiting ≡ None
+    → at.kept ≡ None → new.stage ≡ at.stage → new.answer ≡ at.answer → new.pending ≡ at.pending → new.ended ≡ at.ended → new.handshake ≡ at.handshake → new.event ≡ at.event → new.reaches ≡ at.reaches
     → new.kept ≡ at.kept → new.coming ≡ at.coming → new.sent ≡ at.sent → StaysKnown at.client new.client
     → new.rows ≡ at.rows → new.lines ≡ at.lines → kind_of (first_byte arrival.entry) ≢ Init → kind_of (first_byte arrival.entry) ≢ Event
     → (is_srp_entry arrival.entry ≡ true → AsksNothing (before_hearing arrival at) arrival.entry) → PassesEntry (before_hearing arrival at) new
-passes_entry arrival at new name id partner to logins waiting stage answer pending ended handshake event reaches kept coming sent known rows lines no_init no_event nothing = record {
+passes_entry arrival at new name id partner to logins taking outstanding waiting none stage answer pending ended handshake event reaches kept coming sent known rows lines no_init no_event nothing = record {
   stays = record { name = name; id = id; granted = ap (λ (l : LoginState). l.granted) logins; partner = partner; to = to };
   aside = record {
     served = record { stage = stage; answer = answer; pending = pending };
     logins = logins;
+    taking = taking;
+    outstanding = outstanding;
     waiting = waiting;
     client = known;
     rows = rows;
     lines = lines;
   };
   line = record { ended = ended; handshake = handshake; event = event; reaches = reaches };
+  was = none;
   kept = kept;
   sent = sent;
   entry = arrival.entry;
@@ -78,17 +84,19 @@ passes_entry arrival at new name id partner to logins waiting stage answer pendi
 
 -- It carries a request, which is pending.
 pub takes_request : (arrival : Arrival) (at new : Doing) (request : Request) (bytes : List ℕ) → new.name ≡ at.name → new.id ≡ at.id → new.partner ≡ at.partner → new.to ≡ at.to → new.logins ≡ at.logins
-    → new.stage ≡ at.stage → new.answer ≡ at.answer → new.pending ≡ at.pending ++ request ∷ [] → new.ended ≡ at.ended → new.handshake ≡ at.handshake → new.event ≡ at.event → new.reaches ≡ at.reaches
+    → at.kept ≡ None → new.stage ≡ at.stage → new.answer ≡ at.answer → new.pending ≡ at.pending ++ request ∷ [] → new.ended ≡ at.ended → new.handshake ≡ at.handshake → new.event ≡ at.event → new.reaches ≡ at.reaches
     → new.kept ≡ at.kept → new.coming ≡ at.coming → new.sent ≡ at.sent
     → StaysKnown at.client new.client → new.rows ≡ at.rows → new.lines ≡ at.lines → is_srp_entry arrival.entry ≡ true → at.handshake ≡ Up → at.ended ≡ false
     → IsOnLogin request.order at.logins.current → request.address ≡ iu_address arrival.entry
-    → request.unit.items ≡ bytes → length bytes ≡ iu_length arrival.entry → IsReadWhole at.client (iu_address arrival.entry) bytes → TakesRequest (before_hearing arrival at) new
-takes_request arrival at new request bytes name id partner to logins stage answer pending ended handshake event reaches kept coming sent known rows lines srp up going logged address unit_is long read = record {
+    → request.unit.items ≡ bytes → length bytes ≡ iu_length arrival.entry → IsReadWhole at.client (iu_address arrival.entry) bytes
+    → ((iu : Iu) → Spells bytes iu → (request.order ≡ order_asked iu) × (request.tag ≡ tag_asked iu)) → TakesRequest (before_hearing arrival at) new
+takes_request arrival at new request bytes name id partner to logins none stage answer pending ended handshake event reaches kept coming sent known rows lines srp up going logged address unit_is long read means = record {
   stays = record { name = name; id = id; granted = ap (λ (l : LoginState). l.granted) logins; partner = partner; to = to };
   line = record { ended = ended; handshake = handshake; event = event; reaches = reaches };
   put = record { sent = sent; client = known; rows = rows };
   stage = stage;
   answer = answer;
+  was = none;
   kept = kept;
   current = ap (λ (l : LoginState). l.current) logins;
   entry = arrival.entry;
@@ -101,6 +109,7 @@ takes_request arrival at new request bytes name id partner to logins stage answe
   address = address;
   long = ap length unit_is ∙ long;
   read = subst (λ (z : ℕ × List ℕ). IsReadWhole at.client z.0 z.1) (λ i. (sym address i, sym unit_is i)) read;
+  asked = λ iu spelled. means iu (subst (λ (list : List ℕ). Spells list iu) unit_is spelled);
   pending = pending;
   lines = lines;
 }
@@ -119,26 +128,32 @@ accepted_on old new bytes verdict login tag order is decides = on_order order (s
     on_order (orders.Command command) takes = some_on takes.was
     on_order orders.Unreadable takes = some_on takes.was
 
--- The login that is on, and how many requests it grants, are the same as before.
-pub drops_under : (arrival : Arrival) (at new : Doing) (logins : LoginState) → logins ≡ at.logins → DropsAll (before_hearing arrival (record at { logins = logins })) new → DropsAll (before_hearing arrival at) new
-drops_under arrival at new logins same drops = subst (λ (l : LoginState). DropsAll (before_hearing arrival (record at { logins = l })) new) same drops
+-- The login that is on is the same as before, grants as many requests, takes more or none, and has as many outstanding.
+pub drops_under : (arrival : Arrival) (at new : Doing) (logins : LoginState) (taking : Bool) (outstanding : ℕ) → logins ≡ at.logins → taking ≡ at.taking → outstanding ≡ at.outstanding
+    → DropsAll (before_hearing arrival (record at { logins = logins; taking = taking; outstanding = outstanding })) new → DropsAll (before_hearing arrival at) new
+drops_under arrival at new logins taking outstanding same takes few drops =
+    subst (λ (z : LoginState × Bool × ℕ). DropsAll (before_hearing arrival (record at { logins = z.0; taking = z.1; outstanding = z.2 })) new) (λ i. (same i, takes i, few i)) drops
 
 -- THE INITIALISATION, AND DATAGRAMS -------------------------------------------------------------
 
 -- An entry of the initialisation was heard, and this was sent for it; the handshake and whether the session is over were those before.
-pub init_sends : (arrival : Arrival) (was : Handshake) (ended : Bool) (at new : Doing) (reply : Entry) → at.waiting ≡ None → kind_of (first_byte arrival.entry) ≡ Init
+pub init_sends : (arrival : Arrival) (was : Handshake) (ended : Bool) (at new : Doing) (reply : Entry) → at.waiting ≡ None → at.kept ≡ None → ended ≡ false → kind_of (first_byte arrival.entry) ≡ Init
     → at.handshake ≡ state_after was arrival.entry → at.ended ≡ ended → step_entry (step_after was arrival.entry) ≡ Some reply → SendsReply at new reply
     → HearsInit (before_hearing arrival (record at { handshake = was; ended = ended })) new
-init_sends arrival was ended at new reply waits kind shook still step sends = record {
+init_sends arrival was ended at new reply waits none going kind shook still step sends = record {
   stays = record { name = sends.stays.name; id = sends.stays.id; granted = sends.stays.granted; partner = sends.stays.partner; to = sends.stays.to };
   aside = record {
     served = record { stage = sends.aside.served.stage; answer = sends.aside.served.answer; pending = sends.aside.served.pending };
     logins = sends.aside.logins;
+    taking = sends.aside.taking;
+    outstanding = sends.aside.outstanding;
     waiting = sends.aside.waiting ∙ waits;
     client = sends.aside.client;
     rows = sends.aside.rows;
     lines = sends.aside.lines;
   };
+  was = none;
+  going = going;
   entry = arrival.entry;
   heard = ap (λ (list : List Entry). arrival.entry ∷ list) (sym sends.coming);
   kind = kind;
@@ -150,18 +165,22 @@ init_sends arrival was ended at new reply waits kind shook still step sends = re
 }
 
 -- Nothing is sent for it.
-pub init_none : (arrival : Arrival) (was : Handshake) (ended : Bool) (at : Doing) → at.waiting ≡ None → kind_of (first_byte arrival.entry) ≡ Init
+pub init_none : (arrival : Arrival) (was : Handshake) (ended : Bool) (at : Doing) → at.waiting ≡ None → at.kept ≡ None → ended ≡ false → kind_of (first_byte arrival.entry) ≡ Init
     → at.handshake ≡ state_after was arrival.entry → at.ended ≡ ended → step_entry (step_after was arrival.entry) ≡ None → HearsInit (before_hearing arrival (record at { handshake = was; ended = ended })) at
-init_none arrival was ended at waits kind shook still step = record {
+init_none arrival was ended at waits none going kind shook still step = record {
   stays = record { name = refl; id = refl; granted = refl; partner = refl; to = refl };
   aside = record {
     served = record { stage = refl; answer = refl; pending = refl };
     logins = refl;
+    taking = refl;
+    outstanding = refl;
     waiting = waits;
     client = known_same at.client;
     rows = refl;
     lines = refl;
   };
+  was = none;
+  going = going;
   entry = arrival.entry;
   heard = refl;
   kind = kind;
@@ -177,22 +196,27 @@ pub low_address : (entry : Entry) → entry.low < 256 ^ 8 → iu_address entry �
 low_address entry few = big_number-reads_back 8 entry.low [] few
 
 -- A management datagram was heard, and answered.
-pub datagram_sends : (arrival : Arrival) (at new : Doing) (reply : Entry) → at.waiting ≡ None → first_byte arrival.entry ≡ 0x80 → reply ≡ datagram_answer arrival.entry.low → SendsReply at new reply
+pub datagram_sends : (arrival : Arrival) (at new : Doing) (reply : Entry) → at.waiting ≡ None → at.kept ≡ None → at.ended ≡ false → is_srp_entry arrival.entry ≡ false → first_byte arrival.entry ≡ 0x80 → reply ≡ datagram_answer arrival.entry.low → SendsReply at new reply
     → HearsDatagram (before_hearing arrival at) new
-datagram_sends arrival at new reply waits first answers sends = record {
+datagram_sends arrival at new reply waits none going other first answers sends = record {
   stays = record { name = sends.stays.name; id = sends.stays.id; granted = sends.stays.granted; partner = sends.stays.partner; to = sends.stays.to };
   aside = record {
     served = record { stage = sends.aside.served.stage; answer = sends.aside.served.answer; pending = sends.aside.served.pending };
     logins = sends.aside.logins;
+    taking = sends.aside.taking;
+    outstanding = sends.aside.outstanding;
     waiting = sends.aside.waiting ∙ waits;
     client = sends.aside.client;
     rows = sends.aside.rows;
     lines = sends.aside.lines;
   };
   line = record { ended = sends.line.ended; handshake = sends.line.handshake; event = sends.line.event; reaches = sends.line.reaches };
+  was = none;
+  going = going;
   entry = arrival.entry;
   heard = ap (λ (list : List Entry). arrival.entry ∷ list) (sym sends.coming);
   kind = ap kind_of first;
+  other = other;
   sent = subst (SendsOrKeeps at new) answers sends.sent;
 }
 
@@ -270,10 +294,10 @@ still_doing link unit old mid new records alone reserves takes taken client own 
         (λ i. ((takes.last_session ∙ reserves.last_session) i, (taken ∙ reserves.taken) i, ((takes.place ∙ reserves.place) i).received))
 
 -- nothing is due for what was heard
-pub passes_same : (arrival : Arrival) (at : Doing) → at.waiting ≡ None → kind_of (first_byte arrival.entry) ≢ Init → kind_of (first_byte arrival.entry) ≢ Event → ¬ (is_srp_entry arrival.entry ≡ true)
+pub passes_same : (arrival : Arrival) (at : Doing) → at.waiting ≡ None → at.kept ≡ None → kind_of (first_byte arrival.entry) ≢ Init → kind_of (first_byte arrival.entry) ≢ Event → ¬ (is_srp_entry arrival.entry ≡ true)
     → PassesEntry (before_hearing arrival at) at
-passes_same arrival at waits no_init no_event no_srp =
-    passes_entry arrival at at refl refl refl refl refl waits refl refl refl refl refl refl refl refl refl refl (known_same at.client) refl refl no_init no_event (λ srp. absurd (no_srp srp))
+passes_same arrival at waits none no_init no_event no_srp =
+    passes_entry arrival at at refl refl refl refl refl refl refl waits none refl refl refl refl refl refl refl refl refl refl (known_same at.client) refl refl no_init no_event (λ srp. absurd (no_srp srp))
 
 -- a command is no entry of the initialisation, and no event
 pub command_init : (entry : Entry) → first_byte entry ≡ 0x80 → kind_of (first_byte entry) ≢ Init
@@ -299,6 +323,13 @@ format_srp entry other srp = other (eqb-true (entry_format entry) 0x01 (behind (
     behind : (a b : Bool) → (a && b) ≡ true → b ≡ true
     behind true b is = is
     behind false b is = absurd (cc (is))
+
+-- The logins are as they were.
+pub ignored_stays : (old new : Logins) (bytes : List ℕ) (verdict : Verdict) → verdict ≡ Ignored → Decides old new bytes verdict → StaysOn old new
+ignored_stays old new bytes verdict is decides = (subst (Decides old new bytes) is decides).0
+
+pub fatal_stays : (old new : Logins) (bytes : List ℕ) (verdict : Verdict) (cause : Lapse) (outstanding granted : ℕ) → verdict ≡ Fatal cause outstanding granted → Decides old new bytes verdict → StaysOn old new
+fatal_stays old new bytes verdict cause outstanding granted is decides = (subst (Decides old new bytes) is decides).0
 
 -- What is judged asks nothing.
 pub ignored_asks : (arrival : Arrival) (at : Doing) (old new : Logins) (bytes : List ℕ) (verdict : Verdict) → verdict ≡ Ignored → Decides old new bytes verdict → at.handshake ≡ Up → at.ended ≡ false

@@ -93,6 +93,8 @@ reply_sent link unit kept old new records entry alone rest own client sent = rec
   aside = record {
     served = record { stage = refl; answer = refl; pending = refl };
     logins = refl;
+    taking = refl;
+    outstanding = refl;
     waiting = refl;
     client = known_equal old.client new.client client;
     rows = refl;

@@ -23,7 +23,7 @@ use Rattle.rdma_copy.specs.Copies.{Copies, OnlyCopies}
 use Rattle.rdma_copy.specs.declared.copy.CopyRecord.{CopyRecord}
 use Rattle.block_server.specs.Copied.{MakesOne, own_name}
 use Rattle.block_server.specs.Granting.{LoginState}
-use Rattle.block_server.specs.Standing.{HasAnswerAt, IsAnswerTo, IsStroke, Stands}
+use Rattle.block_server.specs.Standing.{HasAnswerAt, IsAnswerTo, IsShown, IsStroke, Stands}
 use Rattle.block_server.specs.Talk.{IsReadWhole}
 use Rattle.block_server.specs.declared.request.Request.{Request}
 use Rattle.block_server.specs.declared.service.Outcome.{Outcome}
@@ -66,6 +66,23 @@ read_back piece (Some strokes) now stroke laid has from inside long =
     ∙ ap (λ list. take piece.len (drop stroke.offset list)) (left_by-push strokes stroke)
     ∙ ap (λ (n : ℕ). take n (drop stroke.offset (overwritten (left_by strokes) stroke))) long
     ∙ shows (left_by strokes) stroke.bytes stroke.offset (omega (arith, inside, left_long strokes))
+
+-- the bytes of the last stroke of a page show on it
+shown_last : (client : PortState) (address : ℕ) (bytes : List ℕ) (name : StrokeName) (piece : Piece) (before : Option (List StrokeValue)) (stroke : StrokeValue)
+    → NamesPage client.values (address / 4096) piece.page → client.strokes piece.page ≡ with_strokes before (stroke ∷ []) → IsNamed name piece (stroke_of client.strokes piece)
+    → stroke.offset ≡ address % 4096 → stroke.bytes ≡ bytes → IsShown client address bytes
+shown_last client address bytes name piece None stroke named laid there from are =
+    absurd (subst (λ (page : Option (List StrokeValue)). IsNamed name piece (option_and_then (λ strokes. slice_get strokes piece.at) page)) laid there)
+shown_last client address bytes name piece (Some before) stroke named laid there from are = record {
+  page = piece.page;
+  named = named;
+  strokes = before ++ stroke ∷ [];
+  there = laid;
+  shows = (λ i. take (length (sym are i)) (drop (sym from i) (left_by (before ++ stroke ∷ []))))
+      ∙ ap (λ list. take (length stroke.bytes) (drop stroke.offset list)) (left_by-push before stroke)
+      ∙ shows (left_by before) stroke.bytes stroke.offset (omega (arith, from, left_long before))
+      ∙ are;
+}
 
 -- RANGES -----------------------------------------------------------------------------------------
 
@@ -130,6 +147,16 @@ stroke_there client name address bytes piece names offset (Some strokes) is (Som
   is = at ∙ (λ i. Some (record { name = named.0 i; offset = (named.1 ∙ offset) i; bytes = are i }));
 }
 
+-- the page of a piece is the one that its entry names by its last value
+names_page : (client : PortState) (to : ℕ) (piece : Piece) → piece.entry ≡ to / 4096 → IsGranted client.values Write piece → IsLast client.values piece
+    → NamesPage client.values (to / 4096) piece.page
+names_page client to piece entry granted last = subst (λ (e : ℕ). NamesPage client.values e piece.page) entry (record {
+  version = piece.version;
+  value = granted.value;
+  current = record { shown = granted.shown; last = last };
+  named = sym granted.page;
+})
+
 -- what was written to one piece is a stroke
 one_stroke : (client : PortState) (name : StrokeName) (to : ℕ) (bytes : List ℕ) (pieces : List Piece) → IsOne to (length bytes) pieces
     → IsWrittenTo client.place.unit client.values client.strokes to name pieces bytes → All (IsLast client.values) pieces → IsStroke client name to bytes
@@ -141,21 +168,14 @@ one_stroke client name to bytes pieces one written last =
     piece : Piece
     piece = one.piece
 
-    granted : IsGranted client.values Write piece
-    granted = All-head (IsGranted client.values Write) piece [] (subst (All (IsGranted client.values Write)) one.one written.granted)
-
     names : NamesPage client.values (to / 4096) piece.page
-    names = subst (λ (e : ℕ). NamesPage client.values e piece.page) one.entry (record {
-      version = piece.version;
-      value = granted.value;
-      current = record { shown = granted.shown; last = All-head (IsLast client.values) piece [] (subst (All (IsLast client.values)) one.one last) };
-      named = sym granted.page;
-    })
+    names = names_page client to piece one.entry (All-head (IsGranted client.values Write) piece [] (subst (All (IsGranted client.values Write)) one.one written.granted))
+        (All-head (IsLast client.values) piece [] (subst (All (IsLast client.values)) one.one last))
 
 -- what a copy wrote stands where it was written
 pub stands_now : (shared : Bool) (src old new : PortState) (from to len : ℕ) (name : StrokeName) (copy : CopyRecord) (bytes : List ℕ)
     → (copied : Copies shared src old new from to len name copy) → copied.lawful.bytes ≡ bytes → 1 ≤ length bytes → Stands new name to bytes
-stands_now shared src old new from to len name copy bytes copied is some = record { some = some; stand = stand; laid = λ fits. laid fits }
+stands_now shared src old new from to len name copy bytes copied is some = record { some = some; stand = stand; laid = λ fits. laid fits; shows = λ fits. shown fits }
   where
     written : IsWrittenTo new.place.unit new.values new.strokes to name copy.to.items bytes
     written = subst (λ (z : StrokeName × List ℕ). IsWrittenTo new.place.unit new.values new.strokes to z.0 copy.to.items z.1) (λ i. (copied.name_is i, is i)) copied.lawful.written
@@ -167,6 +187,20 @@ stands_now shared src old new from to len name copy bytes copied is some = recor
 
     moved : List ℕ
     moved = flat_map (read_bytes src.strokes) copy.from.items
+
+    shown : to % 4096 + length bytes ≤ 4096 → IsShown new to bytes
+    shown fits =
+        let wrote = one_of new.place.unit to (length bytes) (to + length bytes) copy.to.items refl some fits written.touched in
+        let at = wrote.piece in
+        let laid = copied.laid at.page in
+        let stroke : StrokeValue = record { name = name; offset = at.offset; bytes = take at.len moved } in
+        shown_last new to bytes name at laid.before stroke
+        (names_page new to at wrote.entry (All-head (IsGranted new.values Write) at [] (subst (All (IsGranted new.values Write)) wrote.one written.granted))
+        (All-head (IsLast new.values) at [] (subst (All (IsLast new.values)) wrote.one copied.last_written)))
+        (laid.laid ∙ ap (λ (more : List StrokeValue). with_strokes laid.before more) (ap (λ (list : List Piece). strokes_on at.page list (piece_strokes name moved list)) wrote.one ∙ stroke_one name moved at))
+        (All-head (λ p. IsNamed name p (stroke_of new.strokes p)) at [] (subst (All (λ p. IsNamed name p (stroke_of new.strokes p))) wrote.one written.named))
+        wrote.offset
+        (ap₂ (λ (n : ℕ) (list : List ℕ). take n list) wrote.long (copied.lawful.read.join ∙ is) ∙ take_all (length bytes) bytes (omega arith))
 
     stand : to % 4096 + length bytes ≤ 4096 → (read : List ℕ) → IsReadWhole new to read → length read ≡ length bytes → read ≡ bytes
     stand fits read whole long =

@@ -187,6 +187,28 @@ taken_as one talk old new bytes iu login tag (orders.Command command) of tagged 
     (taken_under talk old new bytes (units.Cmd command) login (orders.Command command) of refl (decides.login_is ∙ sym of.current) refl refl decides)
 taken_as one talk old new bytes iu login tag orders.Unreadable of tagged decides spelled = absurd (tagged.order_is iu spelled)
 
+-- The request asks what its bytes spell.
+asked_as : SpellOne → (old new : Logins) (bytes : List ℕ) (iu : Iu) (login tag : ℕ) (order : Order) → IsTagged (verdicts.Accepted login tag order) bytes
+    → Decides old new bytes (verdicts.Accepted login tag order) → Spells bytes iu → (order ≡ order_asked iu) × (tag ≡ tag_asked iu)
+asked_as one old new bytes iu login tag (orders.Login request) tagged decides spelled =
+    subst (λ (asked : Iu). (orders.Login request ≡ order_asked asked) × (tag ≡ tag_asked asked)) (one bytes (units.LoginReq request) iu decides.1 spelled)
+    (refl, tagged.tag_is ∙ sym decides.1.unit.tag)
+asked_as one old new bytes iu login tag orders.Logout tagged decides spelled =
+    subst (λ (asked : Iu). (orders.Logout ≡ order_asked asked) × (tag ≡ tag_asked asked)) (one bytes (units.ILogout decides.tag) iu decides.spelled spelled)
+    (refl, tagged.tag_is ∙ sym decides.spelled.unit.tagged)
+asked_as one old new bytes iu login tag (orders.Task task) tagged decides spelled =
+    subst (λ (asked : Iu). (orders.Task task ≡ order_asked asked) × (tag ≡ tag_asked asked)) (one bytes (units.TskMgmt task) iu tagged.order_is spelled)
+    (refl, tagged.tag_is ∙ sym tagged.order_is.unit.tag)
+asked_as one old new bytes iu login tag (orders.Command command) tagged decides spelled =
+    subst (λ (asked : Iu). (orders.Command command ≡ order_asked asked) × (tag ≡ tag_asked asked)) (one bytes (units.Cmd command) iu tagged.order_is spelled)
+    (refl, tagged.tag_is ∙ sym tagged.order_is.unit.tag)
+asked_as one old new bytes iu login tag orders.Unreadable tagged decides spelled = absurd (tagged.order_is iu spelled)
+
+pub asked_by : SpellOne → (old new : Logins) (bytes : List ℕ) (verdict : Verdict) (login tag : ℕ) (order : Order) → verdict ≡ verdicts.Accepted login tag order → IsTagged verdict bytes
+    → Decides old new bytes verdict → (iu : Iu) → Spells bytes iu → (order ≡ order_asked iu) × (tag ≡ tag_asked iu)
+asked_by one old new bytes verdict login tag order is tagged decides iu spelled =
+    asked_as one old new bytes iu login tag order (subst (λ (v : Verdict). IsTagged v bytes) is tagged) (subst (Decides old new bytes) is decides) spelled
+
 -- its tag is that of the bytes
 tag_spelled : (talk : Talk) (bytes : List ℕ) (iu : Iu) → Spells bytes iu → MayAsk talk iu → tag_asked iu ≡ field 8 8 bytes
 tag_spelled talk bytes (units.LoginReq r) spelled may = spelled.unit.tag

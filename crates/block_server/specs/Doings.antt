@@ -33,7 +33,7 @@ use Rattle.block_server.specs.RowsOn.{HasLastRow}
 use Rattle.block_server.specs.Serving.{SettlesRow}
 use Rattle.block_server.specs.SiteState.{SiteState}
 use Rattle.block_server.specs.Standing.{IsAnswerTo, Stands, stood}
-use Rattle.block_server.specs.Talk.{IsReadWhole, StaysKnown, Suits, to_come}
+use Rattle.block_server.specs.Talk.{IsReadWhole, StaysKnown, Suits, order_asked, tag_asked, to_come}
 use Rattle.block_server.specs.declared.line.Kept.{Kept}
 use Rattle.block_server.specs.declared.line.Kept.TheVariants as keeps
 use Rattle.block_server.specs.declared.records.Records.{Records}
@@ -77,6 +77,9 @@ pub record Doing : Type 0 where
   pub reaches : Bool
   pub partner : Bool
   pub to : ℕ
+  -- whether the login that is on takes requests, and how many of them are accepted and not answered
+  pub taking : Bool
+  pub outstanding : ℕ
 
 abbrev pub doing_at : Unit → (name : UnitId) → EndState → PortState → (rows : List Served) → (lines : List Grant) → Doing
 doing_at unit name queue client rows lines = record {
@@ -99,6 +102,8 @@ doing_at unit name queue client rows lines = record {
   reaches = queue.registered && queue.place.partner_registered;
   partner = queue.place.partner_registered;
   to = queue.counts.partner_session;
+  taking = unit.logins.taking;
+  outstanding = unit.logins.target.outstanding;
 }
 
 abbrev pub doing : Unit → SiteState → Records → Doing
@@ -169,6 +174,8 @@ pub record StaysServed (old new : Doing) : Type 0 where
 pub record StaysAside (old new : Doing) : Type 0 where
   pub served : StaysServed old new
   pub logins : new.logins ≡ old.logins
+  pub taking : new.taking ≡ old.taking
+  pub outstanding : new.outstanding ≡ old.outstanding
   pub waiting : new.waiting ≡ old.waiting
   pub client : StaysKnown old.client new.client
   pub rows : new.rows ≡ old.rows
@@ -227,9 +234,10 @@ pub record OpensLine (old new : Doing) : Type 0 where
   pub coming : new.coming ≡ []
   pub ended : new.ended ≡ false
   pub handshake : new.handshake ≡ Waiting
+  pub reached : new.reaches ≡ new.partner
   pub event : new.event ≡ None
   pub sent : ((new.sent ≡ (old.sent ++ rows_to old.to (event_put old.partner old.event)) ++ (if new.reaches then rows_to old.to (initialize ∷ []) else [])) × (new.kept ≡ old.kept))
-      ⊎ ((new.sent ≡ old.sent ++ rows_to old.to (event_put old.partner old.event)) × (new.kept ≡ Some (keeps.Reply initialize)))
+      ⊎ ((new.reaches ≡ true) × (new.sent ≡ old.sent ++ rows_to old.to (event_put old.partner old.event)) × (new.kept ≡ Some (keeps.Reply initialize)))
 
 -- The entry that was kept and answers no request was put, or lost.
 pub record SendsKept (old new : Doing) : Type 0 where
@@ -250,10 +258,12 @@ pub record SendsReply (old new : Doing) (entry : Entry) : Type 0 where
   pub coming : new.coming ≡ old.coming
   pub sent : SendsOrKeeps old new entry
 
--- An entry of the initialisation was heard, and what is due for it was sent.
+-- An entry of the initialisation was heard, and what is due for it was sent. An entry is heard only where nothing is kept.
 pub record HearsInit (old new : Doing) : Type 0 where
   pub stays : StaysUnit old new
   pub aside : StaysAside old new
+  pub was : old.kept ≡ None
+  pub going : old.ended ≡ false
   pub entry : Entry
   pub heard : old.coming ≡ entry ∷ new.coming
   pub kind : kind_of (first_byte entry) ≡ Init
@@ -268,9 +278,12 @@ pub record HearsDatagram (old new : Doing) : Type 0 where
   pub stays : StaysUnit old new
   pub aside : StaysAside old new
   pub line : StaysLine old new
+  pub was : old.kept ≡ None
+  pub going : old.ended ≡ false
   pub entry : Entry
   pub heard : old.coming ≡ entry ∷ new.coming
   pub kind : kind_of (first_byte entry) ≡ Command
+  pub other : is_srp_entry entry ≡ false
   pub sent : SendsOrKeeps old new (datagram_answer entry.low)
 
 -- The information unit of an SRP entry was read whole at its address, as the window shows it, in a session that goes on; and it is none that asks a
@@ -290,6 +303,7 @@ pub record PassesEntry (old new : Doing) : Type 0 where
   pub stays : StaysUnit old new
   pub aside : StaysAside old new
   pub line : StaysLine old new
+  pub was : old.kept ≡ None
   pub kept : new.kept ≡ old.kept
   pub sent : new.sent ≡ old.sent
   pub entry : Entry
@@ -306,6 +320,7 @@ pub record TakesRequest (old new : Doing) : Type 0 where
   pub put : StaysPut old new
   pub stage : new.stage ≡ old.stage
   pub answer : new.answer ≡ old.answer
+  pub was : old.kept ≡ None
   pub kept : new.kept ≡ old.kept
   pub current : new.logins.current ≡ old.logins.current
   pub entry : Entry
@@ -318,11 +333,14 @@ pub record TakesRequest (old new : Doing) : Type 0 where
   pub address : request.address ≡ iu_address entry
   pub long : length request.unit.items ≡ iu_length entry
   pub read : IsReadWhole old.client request.address request.unit.items
+  -- it is what its bytes ask, where they spell an information unit
+  pub asked : (iu : Iu) → Spells request.unit.items iu → (request.order ≡ order_asked iu) × (request.tag ≡ tag_asked iu)
   pub pending : new.pending ≡ old.pending ++ request ∷ []
   pub lines : new.lines ≡ old.lines
 
 -- An event was heard.
 pub record IsLostBy (old new : Doing) : Type 0 where
+  pub was : old.kept ≡ None
   pub entry : Entry
   pub heard : old.coming ≡ entry ∷ new.coming
   pub kind : kind_of (first_byte entry) ≡ Event
@@ -447,6 +465,11 @@ abbrev pub SettlesLogin : Outcome → UnitId → (logins logins' : LoginState) �
 SettlesLogin (outcomes.Granted number) id logins logins' lines lines' = StartsLogin number id logins logins' lines lines'
 SettlesLogin outcome id logins logins' lines lines' = (logins' ≡ logins) × (lines' ≡ lines)
 
+-- A login that is granted is on, takes requests, and has none outstanding.
+abbrev pub IsNewLogin : Outcome → Doing → Type 0
+IsNewLogin (outcomes.Granted number) new = (new.logins.current ≢ 0) × (new.taking ≡ true) × (new.outstanding ≡ 0)
+IsNewLogin outcome new = ⊤
+
 -- It was put, and the request is served: its login begins, or its row has its answer.
 pub record PutsEntry (old new : Doing) : Type 0 where
   pub stays : StaysUnit old new
@@ -463,6 +486,7 @@ pub record PutsEntry (old new : Doing) : Type 0 where
   pub sent : Sends old new (entry_for request old.answer ∷ [])
   pub rows : SettlesRow outcome old.answer old.rows new.rows
   pub logins : SettlesLogin outcome old.id old.logins new.logins old.lines new.lines
+  pub begins : IsNewLogin outcome new
 
 -- It met a closed queue: the request is served, and nobody is told.
 pub record LosesEntry (old new : Doing) : Type 0 where

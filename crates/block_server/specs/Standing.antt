@@ -1,10 +1,11 @@
 -- What stands where a unit answered a request: the answer, and what that says.
-use Rattle.std.specs.Prelude.{◌≡◌, ◌≢◌, ◌+◌, ◌/◌, ◌%◌, ◌++◌, ◌≤◌, ⊤, ℕ, true, List, [], ◌∷◌, Some, length, slice_get}
+use Rattle.std.specs.Prelude.{◌≡◌, ◌≢◌, ◌+◌, ◌/◌, ◌%◌, ◌++◌, ◌≤◌, ⊤, ℕ, true, List, [], ◌∷◌, Some, drop, length, slice_get, take}
 use Rattle.vio_num.specs.Entry.{srp_entry}
 use Rattle.vio_num.specs.declared.entry.Entry.{Entry}
 use Rattle.vio_num.specs.declared.TheConstants.{PAGE_BYTES}
 use Rattle.vio_num.specs.declared.history.Served.{Served}
 use Rattle.vio_num.specs.declared.names.UnitId.{UnitId}
+use Rattle.page_slots.specs.Page.{left_by}
 use Rattle.page_slots.specs.Stroke.{StrokeValue}
 use Rattle.page_slots.specs.declared.stroke.StrokeName.{StrokeName}
 use Rattle.tce_window.specs.Pieces.{NamesPage}
@@ -41,11 +42,20 @@ pub record IsStroke (client : PortState) (name : StrokeName) (address : ℕ) (by
   pub place : ℕ
   pub is : slice_get strokes place ≡ Some (record { name = name; offset = address % PAGE_BYTES; bytes = bytes })
 
+-- They show on the page that the address's entry names by its last value, whether it lets be read or not.
+pub record IsShown (client : PortState) (address : ℕ) (bytes : List ℕ) : Type 0 where
+  pub page : ℕ
+  pub named : NamesPage client.values (address / PAGE_BYTES) page
+  pub strokes : List StrokeValue
+  pub there : client.strokes page ≡ Some strokes
+  pub shows : take (length bytes) (drop (address % PAGE_BYTES) (left_by strokes)) ≡ bytes
+
 -- These bytes, at least one, stand in a window at this address, as a stroke of this name, if one entry has them all.
 pub record Stands (client : PortState) (name : StrokeName) (address : ℕ) (bytes : List ℕ) : Type 0 where
   pub some : 1 ≤ length bytes
   pub stand : address % PAGE_BYTES + length bytes ≤ PAGE_BYTES → StandAt client address bytes
   pub laid : address % PAGE_BYTES + length bytes ≤ PAGE_BYTES → IsStroke client name address bytes
+  pub shows : address % PAGE_BYTES + length bytes ≤ PAGE_BYTES → IsShown client address bytes
 
 -- what is known of a window by what stands in it alone: that a table which was fetched stood there
 abbrev pub stood : PortState → Hearing

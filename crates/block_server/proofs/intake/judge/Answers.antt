@@ -19,7 +19,7 @@ use Rattle.vio_num.specs.declared.history.Grant.TheVariants.{Lapsed}
 use Rattle.block_server.specs.Refusals.{ledger_at, waiting_in}
 use Rattle.std.proofs.Common.{inl}
 use Rattle.block_server.proofs.Dealing.{accepted_how, ignored_none}
-use Rattle.block_server.proofs.Talking.{accepts_pushed, not_fatal, not_ignored}
+use Rattle.block_server.proofs.Talking.{accepts_pushed, asked_by, not_fatal, not_ignored}
 use Rattle.block_server.specs.Talk.{talk_of}
 use Rattle.block_server.proofs.LastRows.{ended_idle, idle_same}
 use Rattle.crq_session.specs.EndState.{EndState}
@@ -27,7 +27,7 @@ use Rattle.block_server.specs.Doings.{doing}
 use Rattle.block_server.specs.Granting.{login_state}
 use Rattle.block_server.specs.Talk.{to_come}
 use Rattle.block_server.proofs.DoingEnds.{drops_heard, left_at_start, one_drops}
-use Rattle.block_server.proofs.DoingHears.{accepted_on, command_event, command_init, drops_under, ignored_asks, one_passes, one_takes, passes_entry, srp_first, takes_request}
+use Rattle.block_server.proofs.DoingHears.{accepted_on, command_event, command_init, drops_under, fatal_stays, ignored_asks, ignored_stays, one_passes, one_takes, passes_entry, srp_first, takes_request}
 use Rattle.block_server.proofs.ServedOuts.{brings_end, brings_none, brings_request}
 use Rattle.block_server.proofs.intake.judge.Goals as goal
 
@@ -145,10 +145,11 @@ returns-in-Fatal-clause-rows c = ended_idle _ _ _ _ _ c.end_counted.ensures.row 
 
 pub returns-in-Ignored-clause-does : goal.returns-in-Ignored-clause-does
 returns-in-Ignored-clause-does c = λ before site srp waits up going start long known queue named read.
+    let still = ignored_stays c.args.unit.now.logins c.judge_unit.new.logins _ c.judge_unit.result c.in-Ignored.is c.judge_unit.ensures.decides in
     one_passes _ _ (passes_entry c.args.arrival (doing c.args.unit.now before c.args.records.now) _ named refl (ap (λ (q : EndState). q.place.partner_registered) queue) (ap (λ (q : EndState). q.counts.partner_session) queue)
     (logins_stay c.args.unit.now.logins c.judge_unit.new.logins (decides_granted c.args.unit.now.logins c.judge_unit.new.logins _ c.judge_unit.result c.judge_unit.ensures.decides)
     (decides_current c.args.unit.now.logins c.judge_unit.new.logins _ c.judge_unit.result c.judge_unit.ensures.decides))
-    waits refl refl refl refl refl (ap (λ (q : EndState). q.kept) queue) (ap (λ (q : EndState). q.registered && q.place.partner_registered) queue)
+    still.taking still.outstanding waits c.requires.none refl refl refl refl refl (ap (λ (q : EndState). q.kept) queue) (ap (λ (q : EndState). q.registered && q.place.partner_registered) queue)
     refl (ap to_come queue) (ap (λ (q : EndState). q.sent) queue) known refl refl (command_init c.args.arrival.entry (srp_first c.args.arrival.entry srp)) (command_event c.args.arrival.entry (srp_first c.args.arrival.entry srp))
     (λ srp. ignored_asks c.args.arrival (doing c.args.unit.now before c.args.records.now) c.args.unit.now.logins c.judge_unit.new.logins _ c.judge_unit.result c.in-Ignored.is c.judge_unit.ensures.decides up going long read))
 
@@ -157,15 +158,18 @@ returns-in-Ok-clause-does c = λ before site srp waits up going start long known
     one_takes _ _ (takes_request c.args.arrival (doing c.args.unit.now before c.args.records.now) _ _ _ named refl (ap (λ (q : EndState). q.place.partner_registered) queue) (ap (λ (q : EndState). q.counts.partner_session) queue)
     (logins_stay c.args.unit.now.logins c.judge_unit.new.logins (decides_granted c.args.unit.now.logins c.judge_unit.new.logins _ c.judge_unit.result c.judge_unit.ensures.decides)
     (decides_current c.args.unit.now.logins c.judge_unit.new.logins _ c.judge_unit.result c.judge_unit.ensures.decides))
-    refl refl c.in-Ok.ensures.items refl refl (ap (λ (q : EndState). q.kept) queue) (ap (λ (q : EndState). q.registered && q.place.partner_registered) queue)
+    c.requires.none refl refl c.in-Ok.ensures.items refl refl (ap (λ (q : EndState). q.kept) queue) (ap (λ (q : EndState). q.registered && q.place.partner_registered) queue)
     refl (ap to_come queue) (ap (λ (q : EndState). q.sent) queue) known refl refl srp up going
-    (accepted_on c.args.unit.now.logins c.judge_unit.new.logins _ c.judge_unit.result _ _ _ c.in-Accepted.is c.judge_unit.ensures.decides) c.iu_address.ensures c.kept.ensures long read)
+    (accepted_on c.args.unit.now.logins c.judge_unit.new.logins _ c.judge_unit.result _ _ _ c.in-Accepted.is c.judge_unit.ensures.decides) c.iu_address.ensures c.kept.ensures long read
+    (asked_by c.bytes_spell_one.ensures c.args.unit.now.logins c.judge_unit.new.logins _ c.judge_unit.result _ _ _ c.in-Accepted.is c.judge_unit.ensures.tagged c.judge_unit.ensures.decides))
 
 pub returns-in-Fatal-clause-does : goal.returns-in-Fatal-clause-does
 returns-in-Fatal-clause-does c = λ before site srp waits up going start long known queue named read.
-    one_drops _ _ (drops_under c.args.arrival (doing c.args.unit.now before c.args.records.now) _ (login_state c.judge_unit.new.logins)
+    let still = fatal_stays c.args.unit.now.logins c.judge_unit.new.logins _ c.judge_unit.result _ _ _ c.in-Fatal.is c.judge_unit.ensures.decides in
+    one_drops _ _ (drops_under c.args.arrival (doing c.args.unit.now before c.args.records.now) _ (login_state c.judge_unit.new.logins) c.judge_unit.new.logins.taking c.judge_unit.new.logins.target.outstanding
     (logins_stay c.args.unit.now.logins c.judge_unit.new.logins (decides_granted c.args.unit.now.logins c.judge_unit.new.logins _ c.judge_unit.result c.judge_unit.ensures.decides)
     (decides_current c.args.unit.now.logins c.judge_unit.new.logins _ c.judge_unit.result c.judge_unit.ensures.decides))
+    still.taking still.outstanding
     (drops_heard c.args.arrival (record c.args.unit.now { logins = c.judge_unit.new.logins }) c.end_counted.new.unit before.own.place.unit site.own.place.unit before.queue site.queue before.client site.client c.args.records.now c.end_counted.new.records _ _ _ _
     start c.end_counted.ensures.ends named queue known c.end_counted.ensures.id c.end_counted.ensures.stage (left_at_start _ _ _ _ start c.end_counted.ensures.row) c.end_counted.ensures.closing c.end_counted.ensures.handshake))
 

@@ -145,12 +145,12 @@ returns-in-1-clause-does g c = λ link alone going first waits free. c.receive.e
 pub returns-in-2-clause-does : goal.returns-in-2-clause-does
 returns-in-2-clause-does g c = λ link alone going first waits free.
     let sends = c.put_reply.ensures.aside c.args.records.now link in
-    one_freely _ _ (one_datagram _ _ (datagram_sends c.args.arrival (doing c.args.unit.now (g.S.Site.state c.args.site.now) c.args.records.now) _ _ waits first (c.datagram_answer.ensures.entry ∙ ap datagram_answer (c.iu_address.ensures ∙ low_address c.args.arrival.entry (search rules))) sends))
+    one_freely _ _ (one_datagram _ _ (datagram_sends c.args.arrival (doing c.args.unit.now (g.S.Site.state c.args.site.now) c.args.records.now) _ _ waits c.requires.none going (not_format c.args.arrival.entry (λ one. search rules)) first (c.datagram_answer.ensures.entry ∙ ap datagram_answer (c.iu_address.ensures ∙ low_address c.args.arrival.entry (search rules))) sends))
     (reply_free (doing c.args.unit.now (g.S.Site.state c.args.site.now) c.args.records.now) _ _ sends (plain_none _ c.datagram_answer.ensures.may c.datagram_answer.ensures.plain) (hearing_free c.args.arrival (doing c.args.unit.now (g.S.Site.state c.args.site.now) c.args.records.now) waits free))
 
 pub returns-in_default-clause-does : goal.returns-in_default-clause-does
 returns-in_default-clause-does g c = λ link alone going first waits free.
-    passes_freely _ _ (passes_same c.args.arrival (doing c.args.unit.now (g.S.Site.state c.args.site.now) c.args.records.now) waits (command_init c.args.arrival.entry first) (command_event c.args.arrival.entry first) (format_srp c.args.arrival.entry (λ is. search rules))) (hearing_free c.args.arrival (doing c.args.unit.now (g.S.Site.state c.args.site.now) c.args.records.now) waits free)
+    passes_freely _ _ (passes_same c.args.arrival (doing c.args.unit.now (g.S.Site.state c.args.site.now) c.args.records.now) waits c.requires.none (command_init c.args.arrival.entry first) (command_event c.args.arrival.entry first) (format_srp c.args.arrival.entry (λ is. search rules))) (hearing_free c.args.arrival (doing c.args.unit.now (g.S.Site.state c.args.site.now) c.args.records.now) waits free)
 
 pub returns-in-1-clause-goes : goal.returns-in-1-clause-goes
 returns-in-1-clause-goes g c = λ alone on. c.receive.ensures.goes alone on

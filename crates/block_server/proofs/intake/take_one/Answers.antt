@@ -627,7 +627,7 @@ returns-in-Some-clause-does g c = λ link alone going free.
     let sends = c.put_reply.ensures.aside c.args.records.now link in
     hears_freely _ _ _ (came_doing c.args.unit.now (g.S.Site.state c.args.site.now) (g.S.Site.state c.poll.new.self) c.args.records.now (record { number = c.in-Got.number; entry = c.in-Got.entry }) free.waiting (came _ _ (g.S.Site.state c.reserve.new.self).queue _ c.in-Got.number c.in-Got.entry link c.reserve.ensures.rest c.poll.ensures.rest c.in-Got.ensures.got)
     (c.poll.ensures.rest.kept ∙ c.reserve.ensures.rest.kept) (c.poll.ensures.windows.client ∙ c.reserve.ensures.windows.client) (c.poll.ensures.windows.own ∙ c.reserve.ensures.windows.own))
-    (λ on. one_freely _ _ (one_init _ _ (init_sends (record { number = c.in-Got.number; entry = c.in-Got.entry }) c.args.unit.now.line.handshake (is_ended c.args.unit.now.line) (record (doing c.args.unit.now (g.S.Site.state c.poll.new.self) c.args.records.now) { handshake = c.got-step.new.self; ended = c.args.unit.now.line.closing || is_down c.got-step.new.self }) _ _ free.waiting (search rules) c.got-step.ensures.state (got_ended _ _ _ c.in-Got.entry c.got-step.ensures.state)
+    (λ on. one_freely _ _ (one_init _ _ (init_sends (record { number = c.in-Got.number; entry = c.in-Got.entry }) c.args.unit.now.line.handshake (is_ended c.args.unit.now.line) (record (doing c.args.unit.now (g.S.Site.state c.poll.new.self) c.args.records.now) { handshake = c.got-step.new.self; ended = c.args.unit.now.line.closing || is_down c.got-step.new.self }) _ _ free.waiting c.requires.none going (search rules) c.got-step.ensures.state (got_ended _ _ _ c.in-Got.entry c.got-step.ensures.state)
     (ap step_entry (sym c.got-step.ensures.step) ∙ sym c.reply_of.ensures.reply ∙ c.in-Some.is) sends))
     (reply_free (record (doing c.args.unit.now (g.S.Site.state c.poll.new.self) c.args.records.now) { handshake = c.got-step.new.self; ended = c.args.unit.now.line.closing || is_down c.got-step.new.self }) _ _ sends (plain_none _ c.in-Some.ensures.may c.in-Some.ensures.plain) (record { waiting = free.waiting; stage = free.stage; kept = free.kept }))) free
 
@@ -635,7 +635,7 @@ pub returns-in-None-clause-does : goal.returns-in-None-clause-does
 returns-in-None-clause-does g c = λ link alone going free.
     hears_freely _ _ _ (came_doing c.args.unit.now (g.S.Site.state c.args.site.now) (g.S.Site.state c.poll.new.self) c.args.records.now (record { number = c.in-Got.number; entry = c.in-Got.entry }) free.waiting (came _ _ (g.S.Site.state c.reserve.new.self).queue _ c.in-Got.number c.in-Got.entry link c.reserve.ensures.rest c.poll.ensures.rest c.in-Got.ensures.got)
     (c.poll.ensures.rest.kept ∙ c.reserve.ensures.rest.kept) (c.poll.ensures.windows.client ∙ c.reserve.ensures.windows.client) (c.poll.ensures.windows.own ∙ c.reserve.ensures.windows.own))
-    (λ on. one_freely _ _ (one_init _ _ (init_none (record { number = c.in-Got.number; entry = c.in-Got.entry }) c.args.unit.now.line.handshake (is_ended c.args.unit.now.line) (record (doing c.args.unit.now (g.S.Site.state c.poll.new.self) c.args.records.now) { handshake = c.got-step.new.self; ended = c.args.unit.now.line.closing || is_down c.got-step.new.self }) free.waiting (search rules) c.got-step.ensures.state (got_ended _ _ _ c.in-Got.entry c.got-step.ensures.state)
+    (λ on. one_freely _ _ (one_init _ _ (init_none (record { number = c.in-Got.number; entry = c.in-Got.entry }) c.args.unit.now.line.handshake (is_ended c.args.unit.now.line) (record (doing c.args.unit.now (g.S.Site.state c.poll.new.self) c.args.records.now) { handshake = c.got-step.new.self; ended = c.args.unit.now.line.closing || is_down c.got-step.new.self }) free.waiting c.requires.none going (search rules) c.got-step.ensures.state (got_ended _ _ _ c.in-Got.entry c.got-step.ensures.state)
     (ap step_entry (sym c.got-step.ensures.step) ∙ sym c.reply_of.ensures.reply ∙ c.in-None.is)))
     (record { waiting = free.waiting; stage = free.stage; kept = free.kept })) free
 
@@ -646,19 +646,19 @@ returns-in-Event-clause-does g c = λ link alone going free.
     (λ on. drops_freely _ _ (drops_lost (record { number = c.in-Got.number; entry = c.in-Got.entry }) c.args.unit.now.line.handshake (is_ended c.args.unit.now.line) _ c.lose_partner.new.unit (g.S.Site.state c.poll.new.self).own.place.unit (g.S.Site.state c.poll.new.self).queue (g.S.Site.state c.poll.new.self).client
     c.args.records.now c.lose_partner.new.records _ _ _ _ free.stage c.lose_partner.ensures.ends c.lose_partner.ensures.id c.lose_partner.ensures.stage (left_at_start _ _ _ _ free.stage c.lose_partner.ensures.row)
     (search rules) (c.lose_partner.ensures.handshake ∙ c.got-step-in-Event.ensures.state)
-    (ended_same _ _ _ _ c.lose_partner.ensures.closing c.lose_partner.ensures.handshake ∙ got_ended _ _ _ c.in-Got.entry c.got-step-in-Event.ensures.state)) c.lose_partner.ensures.waiting) free
+    (ended_same _ _ _ _ c.lose_partner.ensures.closing c.lose_partner.ensures.handshake ∙ got_ended _ _ _ c.in-Got.entry c.got-step-in-Event.ensures.state) c.requires.none) c.lose_partner.ensures.waiting) free
 
 pub returns-in-Unused-clause-does : goal.returns-in-Unused-clause-does
 returns-in-Unused-clause-does g c = λ link alone going free.
     hears_freely _ _ _ (came_doing c.args.unit.now (g.S.Site.state c.args.site.now) (g.S.Site.state c.poll.new.self) c.args.records.now (record { number = c.in-Got.number; entry = c.in-Got.entry }) free.waiting (came _ _ (g.S.Site.state c.reserve.new.self).queue _ c.in-Got.number c.in-Got.entry link c.reserve.ensures.rest c.poll.ensures.rest c.in-Got.ensures.got)
     (c.poll.ensures.rest.kept ∙ c.reserve.ensures.rest.kept) (c.poll.ensures.windows.client ∙ c.reserve.ensures.windows.client) (c.poll.ensures.windows.own ∙ c.reserve.ensures.windows.own))
-    (λ on. passes_freely _ _ (passes_same (record { number = c.in-Got.number; entry = c.in-Got.entry }) (doing c.args.unit.now (g.S.Site.state c.poll.new.self) c.args.records.now) free.waiting (λ is. search rules) (λ is. search rules) (other_srp c.in-Got.entry (λ is. search rules))) (record { waiting = free.waiting; stage = free.stage; kept = free.kept })) free
+    (λ on. passes_freely _ _ (passes_same (record { number = c.in-Got.number; entry = c.in-Got.entry }) (doing c.args.unit.now (g.S.Site.state c.poll.new.self) c.args.records.now) free.waiting c.requires.none (λ is. search rules) (λ is. search rules) (other_srp c.in-Got.entry (λ is. search rules))) (record { waiting = free.waiting; stage = free.stage; kept = free.kept })) free
 
 pub returns-in-Reserved-clause-does : goal.returns-in-Reserved-clause-does
 returns-in-Reserved-clause-does g c = λ link alone going free.
     hears_freely _ _ _ (came_doing c.args.unit.now (g.S.Site.state c.args.site.now) (g.S.Site.state c.poll.new.self) c.args.records.now (record { number = c.in-Got.number; entry = c.in-Got.entry }) free.waiting (came _ _ (g.S.Site.state c.reserve.new.self).queue _ c.in-Got.number c.in-Got.entry link c.reserve.ensures.rest c.poll.ensures.rest c.in-Got.ensures.got)
     (c.poll.ensures.rest.kept ∙ c.reserve.ensures.rest.kept) (c.poll.ensures.windows.client ∙ c.reserve.ensures.windows.client) (c.poll.ensures.windows.own ∙ c.reserve.ensures.windows.own))
-    (λ on. passes_freely _ _ (passes_same (record { number = c.in-Got.number; entry = c.in-Got.entry }) (doing c.args.unit.now (g.S.Site.state c.poll.new.self) c.args.records.now) free.waiting (λ is. search rules) (λ is. search rules) (other_srp c.in-Got.entry (λ is. search rules))) (record { waiting = free.waiting; stage = free.stage; kept = free.kept })) free
+    (λ on. passes_freely _ _ (passes_same (record { number = c.in-Got.number; entry = c.in-Got.entry }) (doing c.args.unit.now (g.S.Site.state c.poll.new.self) c.args.records.now) free.waiting c.requires.none (λ is. search rules) (λ is. search rules) (other_srp c.in-Got.entry (λ is. search rules))) (record { waiting = free.waiting; stage = free.stage; kept = free.kept })) free
 
 pub returns-in-Command-clause-goes : goal.returns-in-Command-clause-goes
 returns-in-Command-clause-goes g c = λ alone on. c.take_command.ensures.goes (c.poll.ensures.advances.shared ∙ c.reserve.ensures.advances.shared ∙ alone) on
