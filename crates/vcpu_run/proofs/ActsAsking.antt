@@ -1,12 +1,15 @@
 -- What a request of a client's line does: it was sent, or was not for the cause that the line says.
-use Rattle.std.proofs.Common.{◌≡◌, ◌∙◌, inl, inr, ℕ, true, Option, Some, None, Result, Ok, Err, IfOk, IfErr, IfSome, OnErr, refl, sym, subst}
+use Rattle.std.proofs.Common.{◌≡◌, ◌≢◌, ◌∙◌, inl, inr, ℕ, true, Option, Some, None, Result, Ok, Err, IfOk, IfErr, IfSome, IsErr, OnErr, refl, sym, subst}
 use Rattle.vio_num.specs.declared.memory.NoMemory.{NoMemory}
 use Rattle.boot_text.specs.declared.verb.Verb.{Verb}
 use Rattle.vio_trace.specs.declared.outcome.Outcome.TheVariants as outcomes
+use Rattle.crq_session.specs.EndState.{OnlySends}
+use Rattle.tce_window.specs.PortState.{OnlyWrites}
 use Rattle.unit_region.specs.declared.step.Step.{Step}
 use Rattle.unit_region.specs.declared.step.Step.TheVariants as steps
 use Rattle.vscsi_client.specs.Sending.{LoggedOut, Submitted, Tasked, WhyNotSent, WhyNotSubmitted, command_refusal, logout_refusal, logout_unit, task_refusal, task_unit}
 use Rattle.vscsi_client.specs.declared.answers.Refused.{Refused}
+use Rattle.vscsi_client.specs.declared.answers.Refused.TheVariants as whys
 use Rattle.vscsi_client.specs.declared.op.Op.{Op}
 use Rattle.vcpu_run.specs.Acts.{Acting, ActsFor, CommandsOnce, LogsOutOnce, RefusesLogout, RefusesOp, RefusesTask, SubmitsOnce, TasksOnce}
 use Rattle.vcpu_run.specs.Commands.{IsOpOf, cdb_of}
@@ -22,6 +25,18 @@ same_why a b answer one other = cc (one, other)
 says_sent : (tag : ℕ) (step : Step) (result : Result Step NoMemory) → result ≡ Ok step → SaysSent (Ok tag) result → step ≡ steps.Ends (outcomes.Sent tag)
 says_sent tag step result is says = cc (is, says)
 
+-- memory did not run out where there is a step
+sent_memory : (tag : ℕ) (answer : Result ℕ Refused) → answer ≡ Ok tag → answer ≢ Err whys.NoMemory
+sent_memory tag answer ok is = cc (ok, is)
+
+no_error : (step : Step) (result : Result Step NoMemory) → result ≡ Ok step → IsErr result → ⊥
+no_error step (Ok one) ok is = cc (is)
+no_error step (Err memory) ok is = cc (ok)
+
+none_memory : (why : Refused) (step : Step) (answer : Result ℕ Refused) (result : Result Step NoMemory) → answer ≡ Err why → result ≡ Ok step → (why ≡ whys.NoMemory → IsErr result)
+    → answer ≢ Err whys.NoMemory
+none_memory why step answer result err ok memory is = no_error step result ok (memory (same_why why whys.NoMemory answer err is))
+
 -- a command
 refused_op : (line : ℕ) (op : Op) (old new : Acting) (why : Refused) (answer : Result ℕ Refused) (refusal : Option Refused) → answer ≡ Err why → command_refusal old.ports.own.place.size old.client op ≡ refusal
     → IfSome refusal (λ w. (answer ≡ Err w) × (new.client ≡ old.client) × (new.ports.crq ≡ old.ports.crq) × (new.ports.own ≡ old.ports.own))
@@ -36,19 +51,26 @@ pub command_acts : (line : ℕ) (op : Op) (old new : Acting) (answer : Result �
     (λ why. (answer ≡ Err why) × (new.client ≡ old.client) × (new.ports.crq ≡ old.ports.crq) × (new.ports.own ≡ old.ports.own))
     → IfOk answer (Submitted line op old.client new.client old.ports new.ports)
     → (command_refusal old.ports.own.place.size old.client op ≡ None → IfErr answer (WhyNotSubmitted line op old.client new.client old.ports new.ports))
+    → OnlySends old.ports.crq_shared old.ports.crq new.ports.crq → OnlyWrites old.ports.own new.ports.own → IfErr answer (λ why. why ≡ whys.NoMemory → IsErr result)
     → IfOk result (SubmitsOnce line op old new)
-command_acts line op old new answer (Err memory) same says why refused sent unsent = tt
-command_acts line op old new (Ok tag) (Ok step) same says why refused sent unsent = record {
+command_acts line op old new answer (Err memory) same says why refused sent unsent crq own ran = tt
+command_acts line op old new (Ok tag) (Ok step) same says why refused sent unsent crq own memory = record {
   answer = Ok tag;
   submits = sent;
   says = says_sent tag step (Ok step) refl says;
   answers = same;
+  crq = crq;
+  own = own;
+  memory = sent_memory tag (Ok tag) refl;
 }
-command_acts line op old new (Err why) (Ok step) same says said refused sent unsent = record {
+command_acts line op old new (Err why) (Ok step) same says said refused sent unsent crq own memory = record {
   answer = Err why;
   submits = refused_op line op old new why (Err why) (command_refusal old.ports.own.place.size old.client op) refl refl refused unsent;
   says = said;
   answers = same;
+  crq = crq;
+  own = own;
+  memory = none_memory why step (Err why) (Ok step) refl refl memory;
 }
 
 -- a line that sends one
@@ -96,14 +118,18 @@ pub task_acts : (line function tag : ℕ) (old new : Acting) (answer : Result �
     → IfOk answer (Tasked line function tag old.client new.client old.ports new.ports)
     → (task_refusal old.client ≡ None → IfErr answer (WhyNotSent line old.client (task_unit function tag old.client) old.ports new.ports))
     → OnErr answer (new.client ≡ old.client)
+    → OnlySends old.ports.crq_shared old.ports.crq new.ports.crq → OnlyWrites old.ports.own new.ports.own → IfErr answer (λ why. why ≡ whys.NoMemory → IsErr result)
     → IfOk result (TasksOnce line function tag old new)
-task_acts line function tag old new answer (Err memory) same says why refused sent unsent still = tt
-task_acts line function tag old new (Ok own) (Ok step) same says why refused sent unsent still = record { answer = Ok own; tasks = sent; says = says_sent own step (Ok step) refl says; answers = same }
-task_acts line function tag old new (Err why) (Ok step) same says said refused sent unsent still = record {
+task_acts line function tag old new answer (Err memory) same says why refused sent unsent still crq own ran = tt
+task_acts line function tag old new (Ok own) (Ok step) same says why refused sent unsent still crq wrote memory = record { answer = Ok own; tasks = sent; says = says_sent own step (Ok step) refl says; answers = same; crq = crq; own = wrote; memory = sent_memory own (Ok own) refl }
+task_acts line function tag old new (Err why) (Ok step) same says said refused sent unsent still crq own memory = record {
   answer = Err why;
   tasks = (refused_task line function tag old new why (Err why) (task_refusal old.client) refl refl refused unsent, still);
   says = said;
   answers = same;
+  crq = crq;
+  own = own;
+  memory = none_memory why step (Err why) (Ok step) refl refl memory;
 }
 
 -- a logout
@@ -119,12 +145,16 @@ pub logout_acts : (line : ℕ) (old new : Acting) (answer : Result ℕ Refused) 
     → IfOk answer (LoggedOut line old.client new.client old.ports new.ports)
     → (logout_refusal old.client ≡ None → IfErr answer (WhyNotSent line old.client (logout_unit old.client) old.ports new.ports))
     → OnErr answer (new.client ≡ old.client)
+    → OnlySends old.ports.crq_shared old.ports.crq new.ports.crq → OnlyWrites old.ports.own new.ports.own → IfErr answer (λ why. why ≡ whys.NoMemory → IsErr result)
     → IfOk result (LogsOutOnce line old new)
-logout_acts line old new answer (Err memory) same says why refused sent unsent still = tt
-logout_acts line old new (Ok tag) (Ok step) same says why refused sent unsent still = record { answer = Ok tag; logs_out = sent; says = says_sent tag step (Ok step) refl says; answers = same }
-logout_acts line old new (Err why) (Ok step) same says said refused sent unsent still = record {
+logout_acts line old new answer (Err memory) same says why refused sent unsent still crq own ran = tt
+logout_acts line old new (Ok tag) (Ok step) same says why refused sent unsent still crq own memory = record { answer = Ok tag; logs_out = sent; says = says_sent tag step (Ok step) refl says; answers = same; crq = crq; own = own; memory = sent_memory tag (Ok tag) refl }
+logout_acts line old new (Err why) (Ok step) same says said refused sent unsent still crq own memory = record {
   answer = Err why;
   logs_out = (refused_logout line old new why (Err why) (logout_refusal old.client) refl refl refused unsent, still);
   says = said;
   answers = same;
+  crq = crq;
+  own = own;
+  memory = none_memory why step (Err why) (Ok step) refl refl memory;
 }

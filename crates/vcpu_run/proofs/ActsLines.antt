@@ -2,6 +2,7 @@
 use Rattle.std.proofs.Common.{◌≡◌, ◌≢◌, ◌↔◌, ◌∙◌, inl, inr, ℕ, false, List, None, Some, Result, Ok, Err, IfErr, IfOk, IfSome, IsErrOf, length, refl, sym, ap, subst}
 use Rattle.std.specs.List.{sum}
 use Rattle.vio_num.specs.declared.hypervisor.Moved.{Moved}
+use Rattle.vio_num.specs.declared.hypervisor.Moved.TheVariants as moves
 use Rattle.vio_num.specs.declared.memory.NoMemory.{NoMemory}
 use Rattle.boot_text.specs.declared.verb.Verb.{Verb}
 use Rattle.crq_session.specs.Answered.{FindsInUse, TellsFreed}
@@ -34,12 +35,12 @@ renews_acts line p old new (Ok step) freed logs = inl (freed, logs, freed)
 renews_acts line p old new (Err memory) freed logs = tt
 
 -- one that frees it
-pub frees_acts : (line : ℕ) (p : Progress) (old new : Acting) (room : EndState) (did : Moved) → p ≢ progress.Freed → OnlyReserves old.ports.crq room
+pub frees_acts : (line : ℕ) (p : Progress) (old new : Acting) (room : EndState) → p ≢ progress.Freed → OnlyReserves old.ports.crq room
     → TellsFreed old.ports.crq_shared room new.ports.crq → OnlyFrees old.ports.crq_shared room new.ports.crq → new.ports.own ≡ old.ports.own
-    → new.client ≡ unlinked old.client → new.answers ≡ old.answers → ResetsOnce line p progress.Freed old new (steps.Waits did)
-frees_acts line p old new room did unfreed ready tells rest own client answers = inr (
+    → new.client ≡ unlinked old.client → new.answers ≡ old.answers → ResetsOnce line p progress.Freed old new (steps.Waits moves.Moved)
+frees_acts line p old new room unfreed ready tells rest own client answers = inr (
   unfreed,
-  inl (record { room = room; ready = ready; tells = tells; rest = rest; own = own; client = client; answers = answers }, refl, tt),
+  inl (record { room = room; ready = ready; tells = tells; rest = rest; own = own; client = client; answers = answers }, refl, refl),
 )
 
 -- one that finds it free

@@ -1,17 +1,21 @@
 -- What is done at the pairs of clients, one after the other.
-use Rattle.std.proofs.Common.{◌≡◌, ◌≢◌, ◌∙◌, ◌⊎◌, inl, inr, ℕ, Bool, false, IfOk, IsSomeAnd, List, [], ◌∷◌, ◌++◌, OnOk, Option, Some, None, Result, Ok, Err, slice_get, slice_set, refl, sym, subst}
+use Rattle.std.proofs.Common.{◌≡◌, ◌≢◌, ◌∙◌, ◌⊎◌, inl, inr, ℕ, Bool, false, IfOk, IsSomeAnd, List, [], ◌∷◌, ◌++◌, OnOk, Option, Some, None, Result, Ok, Err, slice_get, slice_set, refl, sym, ap, subst, arith}
 use Rattle.std.specs.Borrow.{GName}
 use Rattle.std.proofs.lemmas.Option.{slice_get_within}
 use Rattle.vio_num.specs.declared.memory.NoMemory.{NoMemory}
 use Rattle.boot_text.specs.declared.plan.Line.{Line}
-use Rattle.crq_session.specs.PlainState.{end_of}
+use Rattle.crq_ring.specs.Pipe.{IsLawfulPipe}
+use Rattle.crq_session.specs.PlainState.{end_of, side_of}
 use Rattle.crq_session.specs.declared.link.PlainLink.{PlainLink}
 use Rattle.tce_window.specs.PlainPort.{known_of}
 use Rattle.unit_region.specs.declared.step.Step.{Step}
+use Rattle.unit_region.specs.declared.step.Step.TheVariants as steps
+use Rattle.vio_num.specs.declared.hypervisor.Moved.TheVariants as moves
 use Rattle.vcpu_run.specs.Acts.{Acting, acting}
-use Rattle.vcpu_run.specs.ActsAt.{AllLead, AtPair, LeadsOver, Leads, LineActs, PairActs, SeatActs, acting_at}
+use Rattle.vcpu_run.specs.ActsAt.{AllLead, AreUnmoved, AtPair, IsUnmoved, LeadsOver, Leads, LineActs, PairActs, SeatActs, acting_at}
 use Rattle.vcpu_run.specs.Agreed.{OnDrivers}
 use Rattle.vcpu_run.specs.Pairs.{AreDriven, Drives}
+use Rattle.vcpu_run.specs.Suited.{suits}
 use Rattle.vcpu_run.specs.declared.driver.Driver.{Driver}
 use Rattle.vcpu_run.specs.declared.pair.Pair.{Pair}
 use Rattle.vcpu_run.specs.declared.script.Progress.{Progress}
@@ -95,11 +99,26 @@ all_lead_ok P (Err e) pairs i old new here is = tt
 
 -- ---- a step of a line at its unit
 
+-- nothing moved there, nor at the others
+unmoved_same : (pair : Pair) → IsUnmoved pair pair
+unmoved_same pair = record { put = omega arith; taken = omega arith }
+
+unmoved_set : (pairs : List Pair) (i k : ℕ) (old new before after : Pair) → slice_get pairs i ≡ Some old → IsUnmoved old new → slice_get pairs k ≡ Some before
+    → slice_get (slice_set pairs i new) k ≡ Some after → (k ≡ i) ⊎ (k ≢ i) → IsUnmoved before after
+unmoved_set pairs i k old new before after here is was now (inl e) =
+    at_set IsUnmoved pairs i old new before after here is (subst (λ (n : ℕ). slice_get pairs n ≡ Some before) e was)
+    (subst (λ (n : ℕ). slice_get (slice_set pairs i new) n ≡ Some after) e now)
+unmoved_set pairs i k old new before after here is was now (inr apart) =
+    subst (IsUnmoved before) (some_is before after (sym was ∙ (sym (get_set_other pairs i k new apart) ∙ now))) (unmoved_same before)
+
 pub seat_acts : (line : Line) (p p' : Progress) (result : Result Step NoMemory) (pairs : List Pair) (i : ℕ) (old new : Pair) → slice_get pairs i ≡ Some old
-    → IfOk result (PairActs line p p' old new) → IfOk result (SeatActs i line p p' pairs (slice_set pairs i new))
-seat_acts line p p' (Err memory) pairs i old new here is = tt
-seat_acts line p p' (Ok step) pairs i old new here is = record {
+    → IfOk result (PairActs line p p' old new) → IfOk result (λ step. step ≡ steps.Waits moves.Quiet → IsUnmoved old new) → IsLawfulPipe (side_of old.link false).queue
+    → IfOk result (SeatActs i line p p' pairs (slice_set pairs i new))
+seat_acts line p p' (Err memory) pairs i old new here is still lawful = tt
+seat_acts line p p' (Ok step) pairs i old new here is still lawful = record {
   acts = λ before after was now. at_set (λ a b. PairActs line p p' a b step) pairs i old new before after here is was now;
+  still = λ quiet k before after was now. unmoved_set pairs i k old new before after here (still quiet) was now (same_or k i);
+  lawful = λ before was. subst (λ (pair : Pair). IsLawfulPipe (side_of pair.link false).queue) (some_is old before (sym here ∙ was)) lawful;
   beside = λ k apart. get_set_other pairs i k new apart;
 }
 
@@ -115,3 +134,15 @@ pub port_acts : (seats : List Seat) (line : Line) (p p' : Progress) (result : Re
     → IfOk result (LineActs seats line p p' pairs pairs)
 port_acts seats line p p' (Err memory) pairs here = tt
 port_acts seats line p p' (Ok step) pairs here = record { client = λ k there. absurd (no_port k (sym there ∙ here)); port = λ there. refl }
+
+-- a step of a line at its unit that did nothing
+pub line_unmoved : (seats : List Seat) (line : Line) (p p' : Progress) (old new : List Pair) (step : Step) → IsSomeAnd (slice_get seats line.unit) (suits line.verb)
+    → LineActs seats line p p' old new step → step ≡ steps.Waits moves.Quiet → AreUnmoved old new
+line_unmoved seats line p p' old new step suited acts quiet = at (slice_get seats line.unit) refl suited
+  where
+    at : (o : Option Seat) → slice_get seats line.unit ≡ o → IsSomeAnd o (suits line.verb) → AreUnmoved old new
+    at None e none = absurd none
+    at (Some sits.Server) e none = absurd none
+    at (Some (sits.Client k)) e there = (acts.client k e).still quiet
+    at (Some sits.Port) e there = λ k before after was now.
+        subst (IsUnmoved before) (some_is before after (sym was ∙ (ap (λ (list : List Pair). slice_get list k) (sym (acts.port e)) ∙ now))) (unmoved_same before)

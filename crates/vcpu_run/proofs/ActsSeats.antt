@@ -20,9 +20,10 @@ use Rattle.vscsi_client.specs.declared.answers.DataFault.TheVariants as faults
 use Rattle.vscsi_client.specs.declared.answers.LoginTurn.{LoginTurn}
 use Rattle.vscsi_client.specs.declared.answers.LoginTurn.TheVariants as turns
 use Rattle.vscsi_client.specs.declared.answers.Refused.{Refused}
-use Rattle.vcpu_run.specs.Acts.{Acting, ActsFor, CommandsOnce, LogsInOnce, ResetsOnce, SaysAs, SaysData, acting, with_room}
+use Rattle.vcpu_run.specs.Acts.{Acting, ActsFor, CommandsOnce, EndsTaking, LogsInOnce, ResetsOnce, SaysAs, SaysData, acting, with_room}
 use Rattle.vcpu_run.specs.ActsAt.{AtPair, FailsOnce, PairActs, acting_at}
 use Rattle.vcpu_run.specs.Agreed.{OnDrivers}
+use Rattle.vcpu_run.specs.Credited.{taken_in}
 use Rattle.vcpu_run.specs.Sendings.{SaysTurned}
 use Rattle.vcpu_run.specs.declared.driver.Driver.{Driver}
 use Rattle.vcpu_run.specs.declared.pair.Pair.{Pair}
@@ -54,11 +55,11 @@ turned_waits (turns.Busy number held) did did' is = tt
 logs_waits : (line : ℕ) (old new : Acting) (did did' : Moved) → LogsInOnce line old new (steps.Waits did) → LogsInOnce line old new (steps.Waits did')
 logs_waits line old new did did' is = record { turn = is.turn; turned = is.turned; says = turned_waits is.turn did did' is.says; answers = is.answers }
 
-resets_waits : (line : ℕ) (p p' : Progress) (old new : Acting) (did did' : Moved) → ResetsOnce line p p' old new (steps.Waits did) → ResetsOnce line p p' old new (steps.Waits did')
-resets_waits line p p' old new did did' (inl (was, logs, now)) = inl (was, logs_waits line old new did did' logs, now)
-resets_waits line p p' old new did did' (inr (was, inl frees)) = inr (was, inl frees)
-resets_waits line p p' old new did did' (inr (was, inr (inr used))) = inr (was, inr (inr used))
-resets_waits line p p' old new did did' (inr (was, inr (inl (logs, now)))) = inr (
+resets_waits : (line : ℕ) (p p' : Progress) (old new : Acting) (did did' : Moved) → did' ≡ moves.Moved → ResetsOnce line p p' old new (steps.Waits did) → ResetsOnce line p p' old new (steps.Waits did')
+resets_waits line p p' old new did did' moved (inl (was, logs, now)) = inl (was, logs_waits line old new did did' logs, now)
+resets_waits line p p' old new did did' moved (inr (was, inl (frees, now, is))) = inr (was, inl (frees, now, ap steps.Waits moved))
+resets_waits line p p' old new did did' moved (inr (was, inr (inr used))) = inr (was, inr (inr used))
+resets_waits line p p' old new did did' moved (inr (was, inr (inl (logs, now)))) = inr (
   was,
   inr (inl (record { room = logs.room; ready = logs.ready; unregistered = logs.unregistered; logs = logs_waits line (with_room logs.room old) new did did' logs.logs }, now)),
 )
@@ -68,7 +69,7 @@ commands_wait line verb old new did did' is = record {
   op = is.op;
   is_op = is.is_op;
   cdb = is.cdb;
-  submits = record { answer = is.submits.answer; submits = is.submits.submits; says = says_waits is.submits.answer did did' is.submits.says; answers = is.submits.answers };
+  submits = record { answer = is.submits.answer; submits = is.submits.submits; says = says_waits is.submits.answer did did' is.submits.says; answers = is.submits.answers; crq = is.submits.crq; own = is.submits.own; memory = is.submits.memory };
 }
 
 data_waits : (answer : Result (List ℕ) DataFault) (did did' : Moved) → SaysData answer (steps.Waits did) → SaysData answer (steps.Waits did')
@@ -78,40 +79,47 @@ data_waits (Err (faults.Stale page)) did did' is = absurd (cc (is))
 data_waits (Err (faults.InUse page word)) did did' is = is
 data_waits (Err faults.NoMemory) did did' is = absurd is
 
-still_waits : (line : ℕ) (verb : Verb) (p p' : Progress) (old new : Acting) (did did' : Moved) → ActsFor line verb p p' old new (steps.Waits did) → ActsFor line verb p p' old new (steps.Waits did')
-still_waits line verbs.Login p p' old new did did' is = logs_waits line old new did did' is
-still_waits line verbs.Reset p p' old new did did' is = resets_waits line p p' old new did did' is
-still_waits line verbs.Logout p p' old new did did' is =
-    record { answer = is.answer; logs_out = is.logs_out; says = says_waits is.answer did did' is.says; answers = is.answers }
-still_waits line (verbs.Task function of) p p' old new did did' is =
-    record { answer = is.answer; tasks = is.tasks; says = says_waits is.answer did did' is.says; answers = is.answers }
-still_waits line (verbs.Take count) p p' old new did did' is = record { entries = is.entries; each = is.each; more = is.more; ends = is.ends }
-still_waits line (verbs.Data of) p p' old new did did' is =
+still_waits : (line : ℕ) (verb : Verb) (p p' : Progress) (old new : Acting) (did did' : Moved) → did' ≡ moves.Moved → ActsFor line verb p p' old new (steps.Waits did)
+    → ActsFor line verb p p' old new (steps.Waits did')
+still_waits line verbs.Login p p' old new did did' moved is = logs_waits line old new did did' is
+still_waits line verbs.Reset p p' old new did did' moved is = resets_waits line p p' old new did did' moved is
+still_waits line verbs.Logout p p' old new did did' moved is =
+    record { answer = is.answer; logs_out = is.logs_out; says = says_waits is.answer did did' is.says; answers = is.answers; crq = is.crq; own = is.own; memory = is.memory }
+still_waits line (verbs.Task function of) p p' old new did did' moved is =
+    record { answer = is.answer; tasks = is.tasks; says = says_waits is.answer did did' is.says; answers = is.answers; crq = is.crq; own = is.own; memory = is.memory }
+still_waits line (verbs.Take count) p p' old new did did' moved is = record { entries = is.entries; each = is.each; more = is.more; ends = takes_waits is.ends }
+  where
+    takes_waits : EndsTaking count (taken_in p') old.ports.crq.place.own_slots is.entries new.client (steps.Waits did)
+        → EndsTaking count (taken_in p') old.ports.crq.place.own_slots is.entries new.client (steps.Waits did')
+    takes_waits (inl used) = inl used
+    takes_waits (inr (inl none)) = inr (inl none)
+    takes_waits (inr (inr slots)) = inr (inr (slots.0, moved))
+still_waits line (verbs.Data of) p p' old new did did' moved is =
     record { reads = is.reads; answer = is.answer; unknown = is.unknown; given = is.given; why = is.why; says = data_waits is.answer did did' is.says }
-still_waits line (verbs.Fill at len seed) p p' old new did did' is = record { aside = is.aside; rest = is.rest; lays = is.lays; says = is.says }
-still_waits line (verbs.Poke at bytes) p p' old new did did' is = record { aside = is.aside; rest = is.rest; lays = is.lays; says = is.says }
-still_waits line (verbs.Peek at len) p p' old new did did' is = record { reads = is.reads; says = is.says }
-still_waits line (verbs.Tce entry page readable writable) p p' old new did did' is = record { aside = is.aside; window = is.window; lays = is.lays; says = is.says }
-still_waits line verbs.Tur p p' old new did did' is = commands_wait line verbs.Tur old new did did' is
-still_waits line (verbs.Read lba blocks at pieces table) p p' old new did did' is = commands_wait line (verbs.Read lba blocks at pieces table) old new did did' is
-still_waits line (verbs.Write lba blocks at pieces table) p p' old new did did' is = commands_wait line (verbs.Write lba blocks at pieces table) old new did did' is
-still_waits line (verbs.Command cdb) p p' old new did did' is = commands_wait line (verbs.Command cdb) old new did did' is
-still_waits line (verbs.CommandIn cdb at len pieces table) p p' old new did did' is = commands_wait line (verbs.CommandIn cdb at len pieces table) old new did did' is
-still_waits line (verbs.CommandOut cdb at len pieces table) p p' old new did did' is = commands_wait line (verbs.CommandOut cdb at len pieces table) old new did did' is
-still_waits line verbs.Open p p' old new did did' is = commands_wait line verbs.Open old new did did' is
-still_waits line verbs.Close p p' old new did did' is = commands_wait line verbs.Close old new did did' is
-still_waits line (verbs.Post at len count) p p' old new did did' is = commands_wait line (verbs.Post at len count) old new did did' is
-still_waits line (verbs.Send to len seed at) p p' old new did did' is = commands_wait line (verbs.Send to len seed at) old new did did' is
-still_waits line (verbs.ChangeMac own) p p' old new did did' is = commands_wait line (verbs.ChangeMac own) old new did did' is
-still_waits line (verbs.Multicast control group) p p' old new did did' is = commands_wait line (verbs.Multicast control group) old new did did' is
-still_waits line (verbs.Hcall number arguments) p p' old new did did' is = commands_wait line (verbs.Hcall number arguments) old new did did' is
-still_waits line verbs.Fail p p' old new did did' is = commands_wait line verbs.Fail old new did did' is
+still_waits line (verbs.Fill at len seed) p p' old new did did' moved is = record { aside = is.aside; rest = is.rest; lays = is.lays; says = is.says }
+still_waits line (verbs.Poke at bytes) p p' old new did did' moved is = record { aside = is.aside; rest = is.rest; lays = is.lays; says = is.says }
+still_waits line (verbs.Peek at len) p p' old new did did' moved is = record { reads = is.reads; says = is.says }
+still_waits line (verbs.Tce entry page readable writable) p p' old new did did' moved is = record { aside = is.aside; window = is.window; lays = is.lays; says = is.says }
+still_waits line verbs.Tur p p' old new did did' moved is = commands_wait line verbs.Tur old new did did' is
+still_waits line (verbs.Read lba blocks at pieces table) p p' old new did did' moved is = commands_wait line (verbs.Read lba blocks at pieces table) old new did did' is
+still_waits line (verbs.Write lba blocks at pieces table) p p' old new did did' moved is = commands_wait line (verbs.Write lba blocks at pieces table) old new did did' is
+still_waits line (verbs.Command cdb) p p' old new did did' moved is = commands_wait line (verbs.Command cdb) old new did did' is
+still_waits line (verbs.CommandIn cdb at len pieces table) p p' old new did did' moved is = commands_wait line (verbs.CommandIn cdb at len pieces table) old new did did' is
+still_waits line (verbs.CommandOut cdb at len pieces table) p p' old new did did' moved is = commands_wait line (verbs.CommandOut cdb at len pieces table) old new did did' is
+still_waits line verbs.Open p p' old new did did' moved is = commands_wait line verbs.Open old new did did' is
+still_waits line verbs.Close p p' old new did did' moved is = commands_wait line verbs.Close old new did did' is
+still_waits line (verbs.Post at len count) p p' old new did did' moved is = commands_wait line (verbs.Post at len count) old new did did' is
+still_waits line (verbs.Send to len seed at) p p' old new did did' moved is = commands_wait line (verbs.Send to len seed at) old new did did' is
+still_waits line (verbs.ChangeMac own) p p' old new did did' moved is = commands_wait line (verbs.ChangeMac own) old new did did' is
+still_waits line (verbs.Multicast control group) p p' old new did did' moved is = commands_wait line (verbs.Multicast control group) old new did did' is
+still_waits line (verbs.Hcall number arguments) p p' old new did did' moved is = commands_wait line (verbs.Hcall number arguments) old new did did' is
+still_waits line verbs.Fail p p' old new did did' moved is = commands_wait line verbs.Fail old new did did' is
 
 pub pair_moves : (line : Line) (p p' : Progress) (old new : Pair) → PairActs line p p' old new (steps.Waits moves.Quiet) → PairActs line p p' old new (steps.Waits moves.Moved)
 pair_moves line p p' old new is =
     on_drivers (λ a b. (lenders : List GName) × ActsFor line.number line.verb p p' (acting_at lenders a old) (acting_at lenders b new) (steps.Waits moves.Quiet))
     (λ a b. (lenders : List GName) × ActsFor line.number line.verb p p' (acting_at lenders a old) (acting_at lenders b new) (steps.Waits moves.Moved)) old.driver new.driver
-    (λ a b acts. (acts.0, still_waits line.number line.verb p p' (acting_at acts.0 a old) (acting_at acts.0 b new) moves.Quiet moves.Moved acts.1)) is
+    (λ a b acts. (acts.0, still_waits line.number line.verb p p' (acting_at acts.0 a old) (acting_at acts.0 b new) moves.Quiet moves.Moved refl acts.1)) is
 
 -- ---- what is done besides
 

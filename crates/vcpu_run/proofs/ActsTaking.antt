@@ -3,6 +3,9 @@ use Rattle.std.proofs.Common.{◌≡◌, ◌≢◌, ◌∙◌, inl, inr, ℕ, �
 use Rattle.std.proofs.lemmas.Bool.Decides.{nat_tests}
 use Rattle.std.proofs.lemmas.List.Elements.{All-cons, All-nil}
 use Rattle.vio_num.specs.declared.hypervisor.Moved.{Moved}
+use Rattle.vio_num.specs.declared.hypervisor.Moved.TheVariants as moves
+use Rattle.crq_session.specs.EndState.{OnlyTakes}
+use Rattle.tce_window.specs.PortState.{OnlyReads}
 use Rattle.vio_trace.specs.declared.outcome.Outcome.TheVariants as outcomes
 use Rattle.unit_region.specs.declared.step.Step.TheVariants as steps
 use Rattle.vscsi_client.specs.State.{tags_of}
@@ -15,12 +18,17 @@ use Rattle.vcpu_run.specs.declared.taking.Took.TheVariants as tooks
 
 -- one entry
 pub takes_once : (old new : Acting) (answer taken : Taken) (took : Took) → answer ≡ taken → took ≡ took_as taken → TakesEntry old.client new.client old.ports new.ports answer
-    → NotesTaken taken new.ports.crq.last_session old.answers new.answers → TakesOnce took old new
-takes_once old new answer taken took is as_taken takes notes = record {
+    → NotesTaken taken new.ports.crq.last_session old.answers new.answers → OnlyTakes old.ports.crq_shared old.ports.crq new.ports.crq
+    → OnlyReads old.ports.own_shared old.ports.own new.ports.own → new.ports.crq_shared ≡ old.ports.crq_shared → new.ports.own_shared ≡ old.ports.own_shared → TakesOnce took old new
+takes_once old new answer taken took is as_taken takes notes crq own crq_hands own_hands = record {
   taken = taken;
   is = as_taken;
   takes = subst (TakesEntry old.client new.client old.ports new.ports) is takes;
   notes = notes;
+  crq = crq;
+  own = own;
+  crq_hands = crq_hands;
+  own_hands = own_hands;
 }
 
 -- What a line has taken so far, behind each of which it goes on.
@@ -122,13 +130,13 @@ line_waits count first taken often tags did old middle new tags_are some far one
 }
 
 -- as many as the queue has slots
-pub line_slots : (count first taken often : ℕ) (did : Moved) (old new : Acting) → often ≡ old.ports.crq.place.own_slots → TakingSo first taken often old new
-    → TakesForLine count first taken old new (steps.Waits did)
-line_slots count first taken often did old new all far = record {
+pub line_slots : (count first taken often : ℕ) (old new : Acting) → often ≡ old.ports.crq.place.own_slots → TakingSo first taken often old new
+    → TakesForLine count first taken old new (steps.Waits moves.Moved)
+line_slots count first taken often old new all far = record {
   entries = far.entries;
   each = far.each;
   more = far.more;
-  ends = inr (inr (record { full = far.long ∙ all; going = far.going }));
+  ends = inr (inr (record { full = far.long ∙ all; going = far.going }, refl));
 }
 
 -- behind the last line

@@ -87,7 +87,7 @@ pub ok_five : {T E : Type 0} (r : Result T E) (A B C D F P : Type 0) → (A → 
 ok_five (Ok x) A B C D F P step a b c d f = step a b c d f
 ok_five (Err e) A B C D F P step a b c d f = tt
 
-pub if_five : {T E : Type 0} (r : Result T E) (A B C D F P : T → Type 0) → ((x : T) → A x → B x → C x → D x → F x → P x)
-    → IfOk r A → IfOk r B → IfOk r C → IfOk r D → IfOk r F → IfOk r P
-if_five (Ok x) A B C D F P step a b c d f = step x a b c d f
-if_five (Err e) A B C D F P step a b c d f = tt
+pub if_six : {T E : Type 0} (r : Result T E) (A B C D F G P : T → Type 0) → ((x : T) → A x → B x → C x → D x → F x → G x → P x)
+    → IfOk r A → IfOk r B → IfOk r C → IfOk r D → IfOk r F → IfOk r G → IfOk r P
+if_six (Ok x) A B C D F G P step a b c d f h = step x a b c d f h
+if_six (Err e) A B C D F G P step a b c d f h = tt

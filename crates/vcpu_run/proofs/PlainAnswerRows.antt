@@ -2,7 +2,6 @@
 -- the client asked for.
 use Rattle.std.proofs.Common.{◌≡◌, ◌≢◌, ◌∙◌, ◌⊎◌, inl, inr, ℕ, ◌≤◌, All, Bool, true, Contains, List, Option, Some, None, length, map, refl, sym, subst}
 use Rattle.std.proofs.lemmas.List.Elements.{All-contains_itself, All-filter, All-map, All-weaker, filter_passes}
-use Rattle.std.specs.List.{AllPairs}
 use Rattle.vio_num.specs.declared.history.Served.{Served}
 use Rattle.vio_num.specs.declared.names.UnitId.{UnitId}
 use Rattle.page_slots.specs.Stroke.{StrokeValue}
@@ -24,9 +23,8 @@ use Rattle.vcpu_run.specs.Gathered.{answer_by}
 use Rattle.vcpu_run.specs.PlainBorne.{rows_by}
 use Rattle.vcpu_run.specs.PlainClients.{HasAnswerRow}
 use Rattle.vcpu_run.specs.PlainNoted.{AreAnswers, AreAskedFor, AsksFor, AsksLong, IsAnswerOfRow, IsLaidAnswer, IsNoResponse}
-use Rattle.vcpu_run.specs.PlainRows.{tags_by}
 use Rattle.vcpu_run.proofs.LinesShown.{all_has}
-use Rattle.vcpu_run.proofs.PlainBorne.{one_row}
+use Rattle.vcpu_run.proofs.PlainBorne.{IsOnlyOne}
 use Rattle.vcpu_run.proofs.PlainLengths.{row_few, says_one}
 use Rattle.vcpu_run.proofs.PlainTags.{same_one}
 
@@ -65,7 +63,6 @@ its_row rows own strokes noted answers is = on (strokes is.laid.page) refl is.la
 
 -- What is known of a plain client's answers, of the rows of its server unit and of the client's own.
 pub record KnowsAnswers (unit own : UnitId) (rows : List Served) (rs : List Row) (answers : List AnswerRow) (strokes : ℕ → Option (List StrokeValue)) : Type 0 where
-  pub apart : AllPairs (λ a b. a ≢ b) (tags_by unit rows)
   pub answered : AreAnswers (rows_by unit rows) own strokes
   pub sized : AreAskedFor (rows_by unit rows) rs
   pub noted : All (IsLaidAnswer own strokes) answers
@@ -75,12 +72,12 @@ pub record KnowsAnswers (unit own : UnitId) (rows : List Served) (rs : List Row)
 
 -- The row of a tag has no more data-in than an answer of the tag leaves of what the client's command asked for.
 pub no_more : (unit own : UnitId) (rows : List Served) (rs : List Row) (answers : List AnswerRow) (strokes : ℕ → Option (List StrokeValue)) → KnowsAnswers unit own rows rs answers strokes
-    → (tag at len : ℕ) (said : DataIn) → IsInwardAt rs tag at len → IsNoted answers tag said → (row : Served) → Contains (rows_by unit rows) row → row_tag row ≡ tag
+    → (tag at len : ℕ) (said : DataIn) → IsInwardAt rs tag at len → IsNoted answers tag said → (row : Served) → Contains (rows_by unit rows) row → IsOnlyOne (rows_by unit rows) tag row → row_tag row ≡ tag
     → length row.inn ≤ transferred len said
-no_more unit own rows rs answers strokes knows tag at len said inward noted row there tag_is =
+no_more unit own rows rs answers strokes knows tag at len said inward noted row there alone tag_is =
     let laid : IsLaidAnswer own strokes noted.row = all_has (IsLaidAnswer own strokes) answers noted.row knows.noted noted.there in
     let has : HasItsRow (rows_by unit rows) noted.row = its_row (rows_by unit rows) own strokes noted.row knows.answered laid in
-    let same : has.row ≡ row = one_row (rows_by unit rows) has.row row knows.apart has.there there (has.tag_is ∙ (noted.tag_is ∙ sym tag_is)) in
+    let same : has.row ≡ row = alone has.row has.there (has.tag_is ∙ noted.tag_is) in
     let written : IsAnswerWritten knows.size knows.told row =
     all_has (IsAnswerWritten knows.size knows.told) (rows_by unit rows) row (All-filter (λ (row : Served). same_unit row.unit unit) (IsAnswerWritten knows.size knows.told) rows knows.written) there in
     let asks : AsksLong row.iu len = all_has (AsksFor rs) (rows_by unit rows) row knows.sized there at len (subst (λ t. IsInwardAt rs t at len) (sym tag_is) inward) in
@@ -90,7 +87,7 @@ no_more unit own rows rs answers strokes knows tag at len said inward noted row 
 
 -- ---- the answers of a client
 
-answer_row : (unit own : UnitId) (rows : List Served) (strokes : ℕ → Option (List StrokeValue)) (noted : AnswerRow) → AreAnswers (rows_by unit rows) own strokes → IsLaidAnswer own strokes noted
+pub answer_row : (unit own : UnitId) (rows : List Served) (strokes : ℕ → Option (List StrokeValue)) (noted : AnswerRow) → AreAnswers (rows_by unit rows) own strokes → IsLaidAnswer own strokes noted
     → HasAnswerRow rows unit noted
 answer_row unit own rows strokes noted answers is =
     let has : HasItsRow (rows_by unit rows) noted = its_row (rows_by unit rows) own strokes noted answers is in

@@ -20,8 +20,8 @@ use Rattle.tce_window.specs.Region.{region_byte}
 use Rattle.block_server.specs.Ends.{IsGrantable}
 use Rattle.block_server.specs.Ranges.{Known, WritesOn, known_in, seen_in}
 use Rattle.block_server.specs.Responses.{login_rejection, login_response}
-use Rattle.block_server.specs.Standing.{IsAnswerTo as IsAnswer, IsPutLast, LeavesOn, stood, IsStroke}
-use Rattle.block_server.specs.Talk.{AnswersRequest, PutsReplies, ServesNext, StandAt, Suits, Word, order_asked, session_rows, tag_asked, talk_of}
+use Rattle.block_server.specs.Standing.{IsAnswerTo as IsAnswer, IsPutLast, IsShown, LeavesOn, stood, IsStroke}
+use Rattle.block_server.specs.Talk.{AnswersRequest, PutsReplies, ServesNext, Suits, Word, order_asked, session_rows, tag_asked, talk_of}
 use Rattle.block_server.specs.declared.request.Order.{Order}
 use Rattle.block_server.specs.declared.request.Order.TheVariants as orders
 use Rattle.block_server.specs.declared.request.Request.{Request}
@@ -31,12 +31,13 @@ use Rattle.vscsi_client.specs.State.{ClientState}
 use Rattle.vscsi_client.specs.Units.{slot_address}
 use Rattle.vscsi_client.specs.declared.TheConstants.{DATA_START}
 use Rattle.vcpu_run.proofs.PlainData.{data_goes, data_stays, served_data}
-use Rattle.vcpu_run.specs.PlainTalk.{AnswerStands, Ask, Between, ClientStays, DataLies, HasRights, InPhase, IsAnswerTo, IsAsk, IsFair, IsOwnWindow, IsPendingAs, KeepsSlots, IsAnswerBy, TalksPlainly, is_counted, is_grant, is_granted, is_login, is_logout, shown, shown_on}
+use Rattle.vcpu_run.specs.PlainTalk.{AnswerStands, Ask, Between, ClientStays, DataLies, InPhase, IsAnswerTo, IsAsk, IsFair, IsOwnWindow, IsPendingAs, KeepsSlots, IsAnswerBy, TalksPlainly, is_counted, is_grant, is_granted, is_login, is_logout, shown, shown_on}
 use Rattle.vcpu_run.proofs.PlainLeaves.{lays_keep, suits_grant}
 use Rattle.vcpu_run.proofs.PlainPages.{shown_long}
 use Rattle.vcpu_run.proofs.PlainServed.{LeavesElse, LeavesSlots, talk_behind}
 use Rattle.vcpu_run.proofs.PlainSlots.{slot_on}
-use Rattle.vcpu_run.proofs.PlainStands.{IsOnPage, stand_shown}
+use Rattle.vcpu_run.proofs.PlainStands.{IsOnPage}
+use Rattle.vcpu_run.proofs.OwnLays.{is_shown}
 use Rattle.vcpu_run.proofs.PlainTurns.{Turns, away_behind, begun_behind, calm_behind}
 use Rattle.vcpu_run.proofs.PlainUnits.{granted_more, rejected_more, response_more, canon_spells}
 use Rattle.unit_region.specs.RegionLines.{IsOn}
@@ -47,15 +48,15 @@ use Rattle.vio_num.specs.declared.TheConstants.{PAGE_BYTES}
 -- ---- what an answer says
 
 -- An answer to a request, as its bytes say, whatever is behind them.
-record Says (granted : ℕ) (who : UnitId) (window : PortState) (ask : Ask) (outcome : Outcome) (bytes : List ℕ) : Type 0 where
-  answer : Iu
-  spelled : (rest : List ℕ) → length (bytes ++ rest) ≤ 256 → Spells (bytes ++ rest) answer
-  suits : IsAnswerTo ask.iu answer
-  grants : is_granted answer ≡ is_grant outcome
-  credits : IsAnswerBy granted who window answer
-  few : length bytes ≤ 256
+pub record Says (granted : ℕ) (who : UnitId) (window : PortState) (ask : Ask) (outcome : Outcome) (bytes : List ℕ) : Type 0 where
+  pub answer : Iu
+  pub spelled : (rest : List ℕ) → length (bytes ++ rest) ≤ 256 → Spells (bytes ++ rest) answer
+  pub suits : IsAnswerTo ask.iu answer
+  pub grants : is_granted answer ≡ is_grant outcome
+  pub credits : IsAnswerBy granted who window answer
+  pub few : length bytes ≤ 256
 
-asked_login : (iu : Iu) (login : LoginReq) → order_asked iu ≡ orders.Login login → iu ≡ units.LoginReq login
+pub asked_login : (iu : Iu) (login : LoginReq) → order_asked iu ≡ orders.Login login → iu ≡ units.LoginReq login
 asked_login (units.LoginReq request) login is = cc (is)
 asked_login (units.ILogout tag) login is = absurd (cc (is))
 asked_login (units.TskMgmt task) login is = absurd (cc (is))
@@ -67,7 +68,7 @@ served_suits (units.TskMgmt task) r is tag = tag
 served_suits (units.Cmd command) r is tag = tag
 served_suits iu r isnt tag = absurd (cc (isnt))
 
-suits_counted : (current : ℕ) (iu : Iu) (row : ℕ) → (is_login iu ≡ true) ⊎ ((is_logout iu ≡ true) ⊎ (is_counted iu ≡ true)) → Suits current (order_asked iu) (outcomes.Served row)
+pub suits_counted : (current : ℕ) (iu : Iu) (row : ℕ) → (is_login iu ≡ true) ⊎ ((is_logout iu ≡ true) ⊎ (is_counted iu ≡ true)) → Suits current (order_asked iu) (outcomes.Served row)
     → is_counted iu ≡ true
 suits_counted current (units.TskMgmt task) row kind suits = refl
 suits_counted current (units.Cmd command) row kind suits = refl
@@ -187,11 +188,11 @@ answer_few current granted tag order (outcomes.Served row) (byte ∷ bytes) answ
 
 -- ---- it stands
 
-shown_front : (strokes : Option (List StrokeValue)) (start count len : ℕ) → IsSome strokes → len ≤ count → take len (shown_on strokes start count) ≡ shown_on strokes start len
+pub shown_front : (strokes : Option (List StrokeValue)) (start count len : ℕ) → IsSome strokes → len ≤ count → take len (shown_on strokes start count) ≡ shown_on strokes start len
 shown_front None start count len there less = absurd (cc (there))
 shown_front (Some strokes) start count len there less = take-take len count (drop start (left_by strokes)) less
 
-says_stands : (window : PortState) → IsOwnWindow window → (ask : Ask) (outcome : Outcome) (bytes : List ℕ) (long : ℕ) → IsAsk ask → (granted : ℕ) (who : UnitId) (says : Says granted who window ask outcome bytes)
+pub says_stands : (window : PortState) → IsOwnWindow window → (ask : Ask) (outcome : Outcome) (bytes : List ℕ) (long : ℕ) → IsAsk ask → (granted : ℕ) (who : UnitId) (says : Says granted who window ask outcome bytes)
     → 1 ≤ length bytes → long ≤ 256 → shown window (slot_address ask.slot) (length bytes) ≡ bytes → AnswerStands granted who window ask long outcome says.answer
 says_stands window own ask outcome bytes long is_ask granted who says some few show = record {
   few = few;
@@ -221,6 +222,20 @@ says_stands window own ask outcome bytes long is_ask granted who says some few s
         sym (take-append-drop (length bytes) whole)
         ∙ ap (λ (list : List ℕ). list ++ drop (length bytes) whole)
         (shown_front (window.strokes page) (slot_address ask.slot % 4096) 256 (length bytes) (own.there page on.inside) says.few ∙ show)
+
+-- An answer that was laid over what was asked, and shows there, stands there.
+pub laid_stands : (current granted : ℕ) (name who : UnitId) (window : PortState) (ask : Ask) (outcome : Outcome) (bytes : List ℕ) → IsOwnWindow window → name ≡ who
+    → window.place.unit ≢ who → IsAsk ask → 1 ≤ length bytes → Suits current (order_asked ask.iu) outcome → IsAnswer current granted ask.tag (order_asked ask.iu) outcome bytes
+    → IsStroke window (record { who = name; mark = ask.tag }) (slot_address ask.slot) bytes → shown window (slot_address ask.slot) (length bytes) ≡ bytes
+    → (answer : Iu) × AnswerStands granted who window ask (length bytes) outcome answer
+laid_stands current granted name who window ask outcome bytes own same apart is_ask some suits answer stroke show =
+    let front : 4096 * (slot_address ask.slot / 4096) < DATA_START = (slot_on window own ask.slot 256 is_ask.slot_is (omega arith) (omega arith)).front in
+    let laid : IsLaid who ask.tag window bytes =
+    stroke_laid window own (record { who = name; mark = ask.tag }) (slot_address ask.slot) bytes who same (λ e. apart (sym e ∙ same)) front (omega arith) stroke in
+    let says = says_of current granted ask.tag who window ask (order_asked ask.iu) outcome bytes laid is_ask refl refl some suits answer in (
+      says.answer,
+      says_stands window own ask outcome bytes (length bytes) is_ask granted who says some says.few show,
+    )
 
 -- ---- the length of the entry
 
@@ -270,12 +285,12 @@ not_out current order outcome suits is = none outcome (subst (λ (o : Order). Su
     none outcomes.Rejected suits = suits
     none (outcomes.Served row) suits = suits
 
-pub leaves_slots : (at at' : Between) (lines lines' : List Grant) (rows rows' : List Served) (name : UnitId) (words : List Word) (turn : Turns at at' lines lines' words) → name ≡ at'.unit.id → at.window.place.unit ≢ at'.unit.id → IsOwnWindow at.window → IsOwnWindow at'.window → HasRights at'.window
+pub leaves_slots : (at at' : Between) (lines lines' : List Grant) (rows rows' : List Served) (name : UnitId) (words : List Word) (turn : Turns at at' lines lines' words) → name ≡ at'.unit.id → at.window.place.unit ≢ at'.unit.id → IsOwnWindow at.window → IsOwnWindow at'.window
     → at'.window.place ≡ at.window.place → at.server.place.partner_registered ≡ true
     → WritesOn (stood at.window) at.unit at.server words (seen_in false at.window) (seen_in false at'.window)
     → LeavesOn name at.unit at.server words at'.server at.window at'.window rows rows'
     → LeavesSlots at.window at'.window turn.middle at'.unit turn.between.queue at'.server turn.added lines' turn.serves
-leaves_slots at at' lines lines' rows rows' name words turn called apart own own' rights place on wrote left = by turn.serves
+leaves_slots at at' lines lines' rows rows' name words turn called apart own own' place on wrote left = by turn.serves
   where
     keeps : (request : Request) (rest : List Request) → turn.middle.pending.items ≡ request ∷ rest → (ask : Ask) → IsPendingAs request ask → IsAsk ask → DataLies at.window ask
         → LeavesElse ask at.window at'.window
@@ -311,9 +326,9 @@ leaves_slots at at' lines lines' rows rows' name words turn called apart own own
         let at_slot : IsOnPage at'.window (slot_address ask.slot) (length leaves.bytes) =
         slot_on at'.window own' ask.slot (length leaves.bytes) is_ask.slot_is leaves.stands.some few in
         let show : shown at'.window (slot_address ask.slot) (length leaves.bytes) ≡ leaves.bytes =
-        stand_shown at'.window own' rights (slot_address ask.slot) leaves.bytes at_slot
-        (subst (λ address. StandAt at'.window address leaves.bytes) pending.address
-        (leaves.stands.stand (subst (λ address. address % 4096 + length leaves.bytes ≤ 4096) (sym pending.address) at_slot.fits))) in
+        is_shown at'.window own' (slot_address ask.slot) leaves.bytes
+        (subst (λ address. IsShown at'.window address leaves.bytes) pending.address
+        (leaves.stands.shows (subst (λ address. address % 4096 + length leaves.bytes ≤ 4096) (sym pending.address) at_slot.fits))) in
         let known : AnswerStands turn.middle.logins.granted at'.unit.id at'.window ask one.long leaves.outcome says.answer =
         says_stands at'.window own' ask leaves.outcome leaves.bytes one.long is_ask turn.middle.logins.granted at'.unit.id says leaves.stands.some (omega (arith, long, few)) show in (
           says.answer,
@@ -342,10 +357,10 @@ leaves_slots at at' lines lines' rows rows' name words turn called apart own own
 
 -- Behind a turn of the server unit what is so between them is so, and nothing is to come.
 pub plainly_served : (granted : ℕ) (at at' : Between) (lines lines' : List Grant) (rows rows' : List Served) (name : UnitId) (words : List Word) → TalksPlainly granted at words → (turn : Turns at at' lines lines' words)
-    → ClientStays at at' → HasRights at'.window → at'.unit.id ≡ at.unit.id → name ≡ at'.unit.id → at.window.place.unit ≢ at'.unit.id → at'.window.place ≡ at.window.place
+    → ClientStays at at' → at'.unit.id ≡ at.unit.id → name ≡ at'.unit.id → at.window.place.unit ≢ at'.unit.id → at'.window.place ≡ at.window.place
     → WritesOn (stood at.window) at.unit at.server words (seen_in false at.window) (seen_in false at'.window)
     → LeavesOn name at.unit at.server words at'.server at.window at'.window rows rows' → TalksPlainly granted at' []
-plainly_served granted at at' lines lines' rows rows' name words talks turn stays rights id called apart place wrote left = record {
+plainly_served granted at at' lines lines' rows rows' name words talks turn stays id called apart place wrote left = record {
   calm = calm_behind granted at at' lines lines' words talks.calm turn stays;
   phase = by talks.phase;
   tabled = ap (λ (s : ClientState). s.tabled) stays.client ∙ talks.tabled;
@@ -356,4 +371,4 @@ plainly_served granted at at' lines lines' rows rows' name words talks turn stay
     by (inr (inl begun)) = inr (inl (begun_behind granted at at' lines lines' words talks.calm begun turn stays))
     by (inr (inr (asked, answers, talk))) =
         inr (inr (talk_behind granted at at' lines lines' words asked answers talks.calm talk turn stays id
-        (leaves_slots at at' lines lines' rows rows' name words turn called apart talks.calm.usable stays.usable rights place (talks.calm.ends.server_sees.partner ∙ talk.registered) wrote left)))
+        (leaves_slots at at' lines lines' rows rows' name words turn called apart talks.calm.usable stays.usable place (talks.calm.ends.server_sees.partner ∙ talk.registered) wrote left)))

@@ -57,18 +57,18 @@ front_kind : (bytes rest whole : List ℕ) (r : Response) → Canon bytes (units
 front_kind bytes rest whole r is same =
     ap (λ (list : List ℕ). slice_index list 0) same ∙ byte_more bytes rest 0 (canon_some bytes (units.Rsp r) is) ∙ is.unit.spells.kind
 
--- What was laid at the front of an answer is the answer of its row, or no response.
-judged : (rows : List Served) (stroke : StrokeValue) (current granted tag : ℕ) (order : Order) (outcome : Outcome) (answer rest : List ℕ) → IsAnswer current granted tag order outcome answer
-    → answer ≡ stroke.bytes ++ rest → ((place : ℕ) → outcome ≡ outcomes.Served place → answer ≡ stroke.bytes → IsAnswerOfRow rows stroke) → IsAnswerOfRow rows stroke ⊎ IsNoResponse stroke
-judged rows stroke current granted tag order (outcomes.Granted number) answer rest (login, of, canon) same its =
+-- What was laid at the front of an answer is the answer of a request that has a row, or no response.
+pub judged_as : (R : Type 0) (stroke : StrokeValue) (current granted tag : ℕ) (order : Order) (outcome : Outcome) (answer rest : List ℕ) → IsAnswer current granted tag order outcome answer
+    → answer ≡ stroke.bytes ++ rest → ((place : ℕ) → outcome ≡ outcomes.Served place → answer ≡ stroke.bytes → R) → R ⊎ IsNoResponse stroke
+judged_as R stroke current granted tag order (outcomes.Granted number) answer rest (login, of, canon) same its =
     inr (λ begins r is. absurd (omega (arith, front_kind stroke.bytes rest answer r is same, canon.unit.spells.kind)))
-judged rows stroke current granted tag order outcomes.Rejected answer rest (login, of, rejects) same its =
+judged_as R stroke current granted tag order outcomes.Rejected answer rest (login, of, rejects) same its =
     inr (λ begins r is. absurd (omega (arith, front_kind stroke.bytes rest answer r is same, rejects.bytes_are.unit.spells.kind)))
-judged rows stroke current granted tag order (outcomes.Served place) [] rest answers same its =
+judged_as R stroke current granted tag order (outcomes.Served place) [] rest answers same its =
     inr (λ begins r is. omega (arith, canon_some stroke.bytes (units.Rsp r) is, length-append stroke.bytes rest, ap length same))
-judged rows stroke current granted tag order (outcomes.Served place) (byte ∷ answer) [] answers same its =
+judged_as R stroke current granted tag order (outcomes.Served place) (byte ∷ answer) [] answers same its =
     inl (its place refl (same ∙ append-nil stroke.bytes))
-judged rows stroke current granted tag order (outcomes.Served place) (byte ∷ answer) (next ∷ rest) answers same its =
+judged_as R stroke current granted tag order (outcomes.Served place) (byte ∷ answer) (next ∷ rest) answers same its =
     inr (λ begins r is.
     let none : length (next ∷ rest) ≡ 0 =
     front_whole stroke.bytes (next ∷ rest) r answers.0 is (subst (λ (list : List ℕ). Canon list (units.Rsp answers.0)) same answers.1) in
@@ -77,7 +77,7 @@ judged rows stroke current granted tag order (outcomes.Served place) (byte ∷ a
 -- ---- where it is
 
 -- a stroke of some bytes that begins where a slot does is a front of the answer that was written there
-front_of : (stroke : StrokeValue) (answer : List ℕ) (entry address slot : ℕ) → address ≡ slot_address slot → length answer ≤ 256 → stroke.offset % 256 ≡ 0 → 1 ≤ length stroke.bytes
+pub front_of : (stroke : StrokeValue) (answer : List ℕ) (entry address slot : ℕ) → address ≡ slot_address slot → length answer ≤ 256 → stroke.offset % 256 ≡ 0 → 1 ≤ length stroke.bytes
     → address ≤ 4096 * entry + stroke.offset → 4096 * entry + stroke.offset + length stroke.bytes ≤ address + length answer
     → ((k : ℕ) → k < length stroke.bytes → slice_index stroke.bytes k ≡ slice_index answer (4096 * entry + stroke.offset + k - address))
     → (rest : List ℕ) × (answer ≡ stroke.bytes ++ rest)
@@ -106,7 +106,7 @@ address_behind span (piece ∷ list) j a all is = by (λ e. address_behind span 
     by rest false e = rest e
 
 -- the pieces that were read are those that the table names
-list_goes : (window : PortState) → IsOwnWindow window → (ask : Ask) → DataLies window ask → (list : List Desc) → IsNamed (stood window) (inn_of ask.iu) list → All (LiesOn ask.pages) list
+pub list_goes : (window : PortState) → IsOwnWindow window → (ask : Ask) → DataLies window ask → (list : List Desc) → IsNamed (stood window) (inn_of ask.iu) list → All (LiesOn ask.pages) list
 list_goes window own ask lies list names =
     let read : names.table ≡ lies.bytes =
     table_read window own ask.table lies.bytes names.table (tables_of (inn_of ask.iu)) (tables_few (inn_of ask.iu)) names.full lies.whole lies.table names.brought in
@@ -135,7 +135,7 @@ question_answers at own name id request asked current granted outcome answer row
         front_of stroke answer laid.lies.entry laid.address asked.ask.slot (part.address_is ∙ asked.pending.address) few begins some laid.lies.from
         (subst (λ (list : List ℕ). 4096 * laid.lies.entry + stroke.offset + length stroke.bytes ≤ laid.address + length list) part.are laid.lies.to)
         (λ k less. laid.bears k less ∙ ap (λ (list : List ℕ). slice_index list (4096 * laid.lies.entry + stroke.offset + k - laid.address)) part.are) in
-        judged (rows_by id rows') stroke current granted request.tag request.order outcome answer of.0 is of.1
+        judged_as (IsAnswerOfRow (rows_by id rows') stroke) stroke current granted request.tag request.order outcome answer of.0 is of.1
         (λ place served same.
         let row = its place served in
         record { row = row.0; there = row.1; tag_is = row.2 ∙ sym (ap (λ (n : StrokeName). n.mark) part.name_is); answer_is = row.3 ∙ same })
@@ -183,7 +183,7 @@ rows_on : (unit : UnitId) (request : Request) (rows rows' : List Served) → Add
 rows_on unit request rows rows' (inl adds) = (adds.row ∷ [], (row_added unit request rows rows' adds.row adds.added (inl adds)).by_unit)
 rows_on unit request rows rows' (inr none) = ([], ap (rows_by unit) none.1 ∙ sym (append-nil (rows_by unit rows)))
 
-answers_more : (list more list' : List Served) → list' ≡ list ++ more → (stroke : StrokeValue) → IsAnswerOfRow list stroke ⊎ IsNoResponse stroke → IsAnswerOfRow list' stroke ⊎ IsNoResponse stroke
+pub answers_more : (list more list' : List Served) → list' ≡ list ++ more → (stroke : StrokeValue) → IsAnswerOfRow list stroke ⊎ IsNoResponse stroke → IsAnswerOfRow list' stroke ⊎ IsNoResponse stroke
 answers_more list more list' same stroke (inl is) = inl (record {
   row = is.row;
   there = subst (λ (rows : List Served). Contains rows is.row) (sym same) (Contains-append_left list more is.row is.there);

@@ -132,7 +132,7 @@ canon_same bytes laid r other a b is = record {
     sense = a.sense ∙ sym b.sense
 
 -- bytes that spell both say the same of both
-response_same : (own : UnitId) (strokes : ℕ → Option (List StrokeValue)) (bytes : List ℕ) (r other : Response) → Spells bytes (units.Rsp r) → Spells bytes (units.Rsp other)
+pub response_same : (own : UnitId) (strokes : ℕ → Option (List StrokeValue)) (bytes : List ℕ) (r other : Response) → Spells bytes (units.Rsp r) → Spells bytes (units.Rsp other)
     → HasResponse own other strokes → HasResponse own r strokes
 response_same own strokes bytes r other a b is = record {
   page = is.page;

@@ -170,7 +170,7 @@ OffTable at len o = meets o.table (span_of at len) ≡ false
 same_spared : (old new : PortState) (spared : Outgoing → Type 0) → IsOwnWindow old → OnlyWrites old new → ((p : ℕ) → new.strokes p ≡ old.strokes p) → LeavesSpared spared old new
 same_spared old new spared own only same = record { slots = same_leaves old new own only same; tables = λ ask spares its. data_same old new same ask tt its }
 
-step_leaves : (old new : PortState) (at line : ℕ) (bytes : List ℕ) (step : Step) → DATA_START ≤ at → OnlyWrites old new
+pub step_leaves : (old new : PortState) (at line : ℕ) (bytes : List ℕ) (step : Step) → DATA_START ≤ at → OnlyWrites old new
     → LaysJust false old new line (Some (record { at = at; bytes = bytes })) (Ok step) → AnswersWrite false old new at bytes line step
     → IsOwnWindow old → LeavesSpared (OffTable at (length bytes)) old new
 step_leaves old new at line bytes (steps.Ends outcomes.Done) behind only lays wrote own = record {
@@ -252,7 +252,7 @@ entry_put entry page e readable writable old new (steps.Ends (outcomes.Code code
 entry_put entry page e readable writable old new (steps.Ends outcome) keeps answer own = absurd answer
 entry_put entry page e readable writable old new (steps.Waits did) keeps answer own = none_put (4096 * entry) e old new answer.1 own
 
-put_leaves : (entry page : ℕ) (readable writable : Bool) (old new : PortState) (result : Result Step NoMemory) → names_own (verbs.Tce entry page readable writable) ≡ true
+pub put_leaves : (entry page : ℕ) (readable writable : Bool) (old new : PortState) (result : Result Step NoMemory) → names_own (verbs.Tce entry page readable writable) ≡ true
     → new.place ≡ old.place → ((p : ℕ) → new.strokes p ≡ old.strokes p) → IfOk result (AnswersPut old new entry (tce_of page readable writable))
     → IfOk result (λ step. IsOwnWindow old → LeavesSpared (λ o. ⊤) old new)
 put_leaves entry page readable writable old new (Err memory) keeps place same answers = tt

@@ -52,7 +52,7 @@ scripts_start partitions scripts made i script found =
     (is.2.fresh, is.2.plainly)
 
 -- so none of its lines has told anything
-none_told : (u : ℕ) (script : Script) → script.logs.items ≡ [] → told_in u script ≡ []
+pub none_told : (u : ℕ) (script : Script) → script.logs.items ≡ [] → told_in u script ≡ []
 none_told u script fresh = ap (ended_by u script.lines.now) fresh ∙ none_ended u script.lines.now
 
 -- The server units are as they were made: each bears its number, and grants so many requests.
@@ -61,14 +61,14 @@ pub record UnitsStart (granted home : ℕ) (list : List Unit) : Type 0 where
   pub granting : AreGranting granted list
   pub names : (k : ℕ) (unit : Unit) → slice_get list k ≡ Some unit → unit.id ≡ server_id home k
 
-new_at : (o : Option Unit) (unit : Unit) → o ≡ Some unit → IfSome o IsNewUnit → IsNewUnit unit
+pub new_at : (o : Option Unit) (unit : Unit) → o ≡ Some unit → IfSome o IsNewUnit → IsNewUnit unit
 new_at None unit e is = cc
 new_at (Some other) unit e is = subst IsNewUnit (some other unit e) is
   where
     some : (a b : Unit) → Some a ≡ Some b → a ≡ b
     some a b e = cc
 
-driver_at : (pair : Pair) (o : Option Driver) (driver : Driver) → o ≡ Some driver → IfSome o (IsOpened pair) → IsOpened pair driver
+pub driver_at : (pair : Pair) (o : Option Driver) (driver : Driver) → o ≡ Some driver → IfSome o (IsOpened pair) → IsOpened pair driver
 driver_at pair None driver e is = cc
 driver_at pair (Some other) driver e is = subst (IsOpened pair) (some other driver e) is
   where
@@ -76,7 +76,7 @@ driver_at pair (Some other) driver e is = subst (IsOpened pair) (some other driv
     some a b e = cc
 
 -- the client and its server unit, before the first turn
-between_new : (granted : ℕ) (unit : Unit) (driver : Driver) (pair : Pair) → IsNewUnit unit → unit.logins.granted ≡ granted → granted ≤ 200 → IsOpened pair driver
+pub between_new : (granted : ℕ) (unit : Unit) (driver : Driver) (pair : Pair) → IsNewUnit unit → unit.logins.granted ≡ granted → granted ≤ 200 → IsOpened pair driver
     → IsNewBetween granted (between_of unit driver pair)
 between_new granted unit driver pair made grants most opened = record {
   made = record { alone = refl; apart = refl; unregistered = opened.server_registered; partner = opened.registered; event = opened.server_kept; made = made };
@@ -92,7 +92,7 @@ between_new granted unit driver pair made grants most opened = record {
 }
 
 -- no stroke lies there
-none_answered : (rows : List Served) (own : UnitId) (strokes : ℕ → Option (List StrokeValue)) → AreBlank strokes → AreAnswers rows own strokes
+pub none_answered : (rows : List Served) (own : UnitId) (strokes : ℕ → Option (List StrokeValue)) → AreBlank strokes → AreAnswers rows own strokes
 none_answered rows own strokes blank page front list there =
     subst (All (λ (stroke : StrokeValue). stroke.name.who ≢ own → IsAnswerOfRow rows stroke ⊎ IsNoResponse stroke)) (sym (blank page list there))
     (All-nil (λ (stroke : StrokeValue). stroke.name.who ≢ own → IsAnswerOfRow rows stroke ⊎ IsNoResponse stroke))
@@ -123,7 +123,7 @@ pair_new granted told home k list pair driver none start most less is apart open
     }
 
 -- the server unit of a plain client
-client_of : (partitions : List Partition) (scripts : List Script) (pairs : List Pair) (ports : List PortSeat) (i u k : ℕ) (script : Script) → IsOfPlan partitions pairs scripts ports
+pub client_of : (partitions : List Partition) (scripts : List Script) (pairs : List Pair) (ports : List PortSeat) (i u k : ℕ) (script : Script) → IsOfPlan partitions pairs scripts ports
     → slice_get scripts i ≡ Some script → slice_get script.seats.items u ≡ Some (sits.Client k) → (server : UnitId) × IsClientOf partitions (unit_of i u) server × (server.unit ≡ k)
 client_of partitions scripts pairs ports i u k script plan found sits_at =
     let partition = held (λ partition. IsScriptFor partition script) (slice_get partitions i) (plan.scripts_are.each i script found) in

@@ -65,6 +65,13 @@ one_row (first ∷ list) a b pairs has_a has_b same =
     by rest (inr h) (inl y) = absurd (first_apart first a list pairs h (ap row_tag y ∙ sym same))
     by rest (inr h) (inr i) = rest h i same
 
+-- each of them that has this tag is this one
+abbrev pub IsOnlyOne : List Served → (tag : ℕ) → Served → Type 0
+IsOnlyOne list tag row = (other : Served) → Contains list other → row_tag other ≡ tag → other ≡ row
+
+pub only_apart : (list : List Served) (tag : ℕ) (row : Served) → AllPairs (λ a b. a ≢ b) (map row_tag list) → Contains list row → row_tag row ≡ tag → IsOnlyOne list tag row
+only_apart list tag row apart there tag_is other has is = one_row list other row apart has there (is ∙ sym tag_is)
+
 -- ---- a window without strokes
 
 pub none_borne : (list : List Served) (server : UnitId) (rs : List Row) (strokes : ℕ → Option (List StrokeValue)) → AreBlank strokes → AreBorne list server rs strokes

@@ -58,7 +58,7 @@ unit_went granted at at' before line slot table bytes calm left tables own_alone
     unit = unit_laid line slot bytes at.window before.own at'.window left within some few laid.0 laid.1
 
 -- a command is in range that was not refused
-in_range_is : (b : Bool) (why : Option Refused) → cond b why (Some Range) ≡ None → b ≡ true
+pub in_range_is : (b : Bool) (why : Option Refused) → cond b why (Some Range) ≡ None → b ≡ true
 in_range_is true why none = refl
 in_range_is false why none = absurd (cc (none))
 

@@ -1,9 +1,9 @@
 -- What a plain client's region shows where the data of a command lie, if the last strokes there are of its server unit under the command's
 -- tag: the first bytes of the data-in of the row with that tag.
-use Rattle.std.proofs.Common.{◌≡◌, ◌≢◌, ◌∙◌, ◌++◌, ◌+◌, ◌-◌, ◌*◌, ◌/◌, ◌<◌, ◌≤◌, ◌∷◌, ℕ, All, true, Contains, List, [], Option, Some, None, length, map, refl, sym, ap, subst, arith}
+use Rattle.std.proofs.Common.{◌≡◌, ◌∙◌, ◌++◌, ◌+◌, ◌-◌, ◌*◌, ◌/◌, ◌<◌, ◌≤◌, ◌∷◌, ℕ, All, true, List, [], Option, Some, None, length, refl, sym, subst, arith}
 use Rattle.std.proofs.lemmas.Bool.Decides.{nat_tests}
 use Rattle.std.proofs.lemmas.List.Elements.{All-weaker}
-use Rattle.std.specs.List.{AllPairs, slice_index}
+use Rattle.std.specs.List.{slice_index}
 use Rattle.vio_num.specs.declared.history.Served.{Served}
 use Rattle.vio_num.specs.declared.names.UnitId.{UnitId}
 use Rattle.page_slots.specs.Page.{AreWithinPage}
@@ -12,7 +12,6 @@ use Rattle.page_slots.specs.declared.stroke.StrokeName.{StrokeName}
 use Rattle.tce_window.specs.Named.{covers, same_name}
 use Rattle.tce_window.specs.Strokes.{AllWithin, IsWithin}
 use Rattle.tce_window.specs.Window.{strokes_at}
-use Rattle.block_server.specs.RowsOn.{row_tag}
 use Rattle.unit_region.specs.RegionLines.{IsFront}
 use Rattle.vscsi_client.specs.Transferred.{DataRange}
 use Rattle.vscsi_client.specs.declared.TheConstants.{DATA_START}
@@ -21,7 +20,7 @@ use Rattle.vcpu_run.specs.DataKept.{IsInwardAt}
 use Rattle.vcpu_run.specs.LinesShow.{seen_at}
 use Rattle.vcpu_run.specs.PlainBorne.{AreBorne, IsByteOf, IsOfRow}
 use Rattle.vcpu_run.specs.declared.pair.Pair.{Pair}
-use Rattle.vcpu_run.proofs.PlainBorne.{one_row}
+use Rattle.vcpu_run.proofs.PlainBorne.{IsOnlyOne}
 use Rattle.vcpu_run.proofs.PlainReady.{all_front}
 use Rattle.vcpu_run.proofs.PlainSums.{Bear, BearAll}
 
@@ -42,17 +41,16 @@ within_front (stroke ∷ front) rest within = (within.0, within_front front rest
 -- What is known of the strokes of a client's region and of the rows of its server unit.
 pub record KnowsBorne (server : UnitId) (list : List Served) (rs : List Row) (strokes : ℕ → Option (List StrokeValue)) : Type 0 where
   pub within : AllWithin strokes
-  pub apart : AllPairs (λ a b. a ≢ b) (map row_tag list)
   pub borne : AreBorne list server rs strokes
 
 -- a byte of a stroke of the name
-byte_of : (server : UnitId) (list : List Served) (rs : List Row) (tag at len page k : ℕ) (row : Served) (s : StrokeValue) → AllPairs (λ a b. a ≢ b) (map row_tag list) → Contains list row → row_tag row ≡ tag
+byte_of : (server : UnitId) (list : List Served) (rs : List Row) (tag at len page k : ℕ) (row : Served) (s : StrokeValue) → IsOnlyOne list tag row
     → IsInwardAt rs tag at len → (s.name.who ≡ server → IsOfRow list rs page s) → same_name s.name (record { who = server; mark = tag }) ≡ true → covers k s ≡ true
     → IsByteOf row.inn at (4096 * page + k) (slice_index s.bytes (k - s.offset))
-byte_of server list rs tag at len page k row s apart there tag_is inward has same cov =
+byte_of server list rs tag at len page k row s alone inward has same cov =
     let of_row : IsOfRow list rs page s = has (who_same s.name (record { who = server; mark = tag }) same) in
     let mark : s.name.mark ≡ tag = mark_same s.name (record { who = server; mark = tag }) same in
-    let one : of_row.row ≡ row = one_row list of_row.row row apart of_row.there there (of_row.tag_is ∙ mark ∙ sym tag_is) in
+    let one : of_row.row ≡ row = alone of_row.row of_row.there (of_row.tag_is ∙ mark) in
     let low : s.offset ≤ k = grind (arith, nat_tests, cov) in
     let high : k < s.offset + length s.bytes = grind (arith, nat_tests, cov) in
     let place : 4096 * page + s.offset + (k - s.offset) ≡ 4096 * page + k = omega (arith, low) in
@@ -61,8 +59,8 @@ byte_of server list rs tag at len page k row s apart there tag_is inward has sam
     (of_row.lies at len (subst (λ t. IsInwardAt rs t at len) (sym mark) inward) (k - s.offset) (omega (arith, low, high))))
 
 pub bear_all : (pair : Pair) (server : UnitId) (list : List Served) (rs : List Row) (tag len : ℕ) (range : DataRange) (row : Served) → KnowsBorne server list rs (strokes_at pair.window.pages)
-    → Contains list row → row_tag row ≡ tag → IsInwardAt rs tag range.at len → DATA_START ≤ range.at → BearAll (seen_at pair) (record { who = server; mark = tag }) range row.inn
-bear_all pair server list rs tag len range row knows there tag_is inward behind page front touched is = by (strokes_at pair.window.pages page) refl is
+    → IsOnlyOne list tag row → IsInwardAt rs tag range.at len → DATA_START ≤ range.at → BearAll (seen_at pair) (record { who = server; mark = tag }) range row.inn
+bear_all pair server list rs tag len range row knows alone inward behind page front touched is = by (strokes_at pair.window.pages page) refl is
   where
     name : StrokeName
     name = record { who = server; mark = tag }
@@ -81,8 +79,8 @@ bear_all pair server list rs tag len range row knows there tag_is inward behind 
           within = within_front front begins.0 (subst AreWithinPage begins.1 (subst IsWithin found (knows.within page)));
           bytes = λ k. All-weaker (λ (s : StrokeValue). s.name.who ≡ server → IsOfRow list rs page s)
               (λ (s : StrokeValue). same_name s.name (record { who = server; mark = tag }) ≡ true → covers k s ≡ true → slice_index s.bytes (k - s.offset) ≡ slice_index row.inn (4096 * page + k - range.at))
-              (λ s has same cov. (byte_of server list rs tag range.at len page k row s knows.apart there tag_is inward has same cov).is) front each;
+              (λ s has same cov. (byte_of server list rs tag range.at len page k row s alone inward has same cov).is) front each;
           inside = λ k. All-weaker (λ (s : StrokeValue). s.name.who ≡ server → IsOfRow list rs page s)
               (λ (s : StrokeValue). same_name s.name (record { who = server; mark = tag }) ≡ true → covers k s ≡ true → 4096 * page + k < range.at + length row.inn)
-              (λ s has same cov. (byte_of server list rs tag range.at len page k row s knows.apart there tag_is inward has same cov).below) front each;
+              (λ s has same cov. (byte_of server list rs tag range.at len page k row s alone inward has same cov).below) front each;
         }

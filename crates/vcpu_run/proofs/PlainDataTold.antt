@@ -1,10 +1,10 @@
 -- What a plain client's lines say of the data of a command: a row of its server unit has the command's tag, and the length and the sum are
 -- those of the row's data-in.
-use Rattle.std.proofs.Common.{◌≡◌, ◌∙◌, ◌⊎◌, ◌++◌, ◌==◌, ◌+◌, ◌*◌, ◌≤◌, ◌&&◌, inl, inr, ℕ, All, Bool, true, false, true≢false, cond, length, nat_le, not, Contains, filter, IfSome, List, [], ◌∷◌, Option, Some, None, map, take, refl, sym, ap, subst, arith}
+use Rattle.std.proofs.Common.{◌≡◌, ◌≢◌, ◌∙◌, ◌⊎◌, ◌++◌, ◌==◌, ◌+◌, ◌*◌, ◌≤◌, ◌&&◌, inl, inr, ℕ, All, Bool, true, false, true≢false, cond, length, nat_le, not, Contains, filter, IfSome, List, [], ◌∷◌, Option, Some, None, map, take, refl, sym, ap, subst, arith}
 use Rattle.std.proofs.lemmas.Bool.Decides.{nat_tests}
 use Rattle.std.proofs.lemmas.List.{take_all}
 use Rattle.std.proofs.lemmas.List.Elements.{All-cons, All-head, All-nil, All-tail, Contains-append_left}
-use Rattle.std.specs.List.{sum}
+use Rattle.std.specs.List.{AllPairs, sum}
 use Rattle.vio_num.specs.Entry.{is_srp_entry}
 use Rattle.vio_num.specs.Queue.{Handed}
 use Rattle.vio_num.specs.declared.entry.Entry.{Entry}
@@ -41,6 +41,7 @@ use Rattle.vcpu_run.specs.TagRows.{is_inward, row_at}
 use Rattle.vcpu_run.proofs.AnswersShown.{contains_map}
 use Rattle.vcpu_run.proofs.LinesShown.{all_has, behind_first, contains_first, first_or, in_session, no_element}
 use Rattle.vcpu_run.proofs.PlainAnswerRows.{KnowsAnswers, no_more}
+use Rattle.vcpu_run.proofs.PlainBorne.{IsOnlyOne, only_apart}
 use Rattle.vcpu_run.proofs.PlainSums.{BearAll, sums_first}
 use Rattle.vcpu_run.proofs.PlainTags.{same_one}
 
@@ -157,18 +158,18 @@ pub record KnowsData (seen : Seen) (server : UnitId) (s : ClientState) (answers 
   pub kept : AreKeptAt s.rows own
   pub reads : AreDataTold seen server own answers
 
-range_told : (seen : Seen) (name : StrokeName) (own : List Ended) (answers : List AnswerRow) (outcome : Outcome) → tells_data outcome ≡ true → IsGivenIf seen name own answers outcome
+pub range_told : (seen : Seen) (name : StrokeName) (own : List Ended) (answers : List AnswerRow) (outcome : Outcome) → tells_data outcome ≡ true → IsGivenIf seen name own answers outcome
     → (range : DataRange) × IsRangeOf own answers name.mark range
 range_told seen name own answers (outcomes.Data len total) is told = (told.range, told.of_line)
 range_told seen name own answers (outcomes.Stale page) is told = (told.range, told.of_line)
 range_told seen name own answers outcome is told = absurd (cc (is))
 
 -- where a line's command was sent, and an answer of its tag noted
-inward_at : (rs : List Row) (own : List Ended) (answers : List AnswerRow) (tag : ℕ) (range : DataRange) → AreKeptAt rs own → IsRangeOf own answers tag range → is_inward (row_at rs tag) ≡ true
-inward_at rs own answers tag range kept is =
-    let at = subst (λ (o : Option DataRange). IsKeptAt rs o (outcomes.Sent tag)) is.reads
-    (subst (λ (outcome : Outcome). IsKeptAt rs (range_in is.line.verb) outcome) is.sent (kept is.line is.there)) in
-    ap is_inward at.1
+pub placed_at : (rs : List Row) (own : List Ended) (answers : List AnswerRow) (tag : ℕ) (range : DataRange) → AreKeptAt rs own → (is : IsRangeOf own answers tag range)
+    → IsInwardAt rs tag range.at is.len
+placed_at rs own answers tag range kept is =
+    subst (λ (o : Option DataRange). IsKeptAt rs o (outcomes.Sent tag)) is.reads
+    (subst (λ (outcome : Outcome). IsKeptAt rs (range_in is.line.verb) outcome) is.sent (kept is.line is.there))
 
 noted_tag : (own : List Ended) (answers : List AnswerRow) (tag : ℕ) (range : DataRange) → IsRangeOf own answers tag range → Contains (answered_tags answers) tag
 noted_tag own answers tag range is =
@@ -230,24 +231,37 @@ whole_sum len total inn first most = (omega (arith, first.0, most), first.1 ∙ 
 
 -- The strokes under the tag of a row bear its data-in, where the client's command of the tag has its data.
 abbrev pub BearRows : Seen → (server unit : UnitId) → (rows : List Served) → List Row → Type 0
-BearRows seen server unit rows rs = (tag len : ℕ) (range : DataRange) (row : Served) → IsInwardAt rs tag range.at len → DATA_START ≤ range.at → Contains (rows_by unit rows) row
-    → row_tag row ≡ tag → BearAll seen (record { who = server; mark = tag }) range row.inn
+BearRows seen server unit rows rs = (tag len : ℕ) (range : DataRange) (row : Served) → IsInwardAt rs tag range.at len → DATA_START ≤ range.at
+    → IsOnlyOne (rows_by unit rows) tag row → BearAll seen (record { who = server; mark = tag }) range row.inn
+
+-- where the data of a tag lie
+abbrev pub LiesBehind : List Ended → List AnswerRow → (tag : ℕ) → Type 0
+LiesBehind own answers tag = (range : DataRange) → IsRangeOf own answers tag range → DATA_START ≤ range.at
+
+-- What is said of data of a tag is so of the one row that has it.
+pub data_sums : (seen : Seen) (server : UnitId) (rs : List Row) (answers : List AnswerRow) (own : List Ended) (rows : List Served) (unit self : UnitId) (strokes : ℕ → Option (List StrokeValue))
+    → AreKeptAt rs own → KnowsAnswers unit self rows rs answers strokes → BearRows seen server unit rows rs → (tag : ℕ) (outcome : Outcome) → LiesBehind own answers tag
+    → IsGivenIf seen (record { who = server; mark = tag }) own answers outcome → (row : Served) → Contains (rows_by unit rows) row → row_tag row ≡ tag → IsOnlyOne (rows_by unit rows) tag row
+    → SumsUp row.inn outcome
+data_sums seen server rs answers own rows unit self strokes kept judged bears tag (outcomes.Data len total) behind told row has is alone =
+    let line = told.of_line in
+    let at : IsInwardAt rs tag told.range.at line.len = placed_at rs own answers tag told.range kept line in
+    whole_sum len total row.inn
+    (sums_first seen (record { who = server; mark = tag }) told.range len total row.inn (bears tag line.len told.range row at (behind told.range line) alone) told.told)
+    (let most = no_more unit self rows rs answers strokes judged tag told.range.at line.len line.said at line.noted row has alone is in omega (arith, most, line.cut, told.told.in_range))
+data_sums seen server rs answers own rows unit self strokes kept judged bears tag outcome behind told row has is alone = tt
 
 pub data_of_rows : (seen : Seen) (server : UnitId) (s : ClientState) (answers : List AnswerRow) (pipe : PipeValue) (own : List Ended) (rows : List Served) (unit self : UnitId)
     (strokes : ℕ → Option (List StrokeValue)) (granted pages : ℕ) → KnowsData seen server s answers pipe own → All (λ (row : PipeRow). IsAnswerFor (tags_by unit rows) s.rows row.entry) pipe.sent
-    → KnowsAnswers unit self rows s.rows answers strokes → IsReplayed granted pages before_lines own → BearRows seen server unit rows s.rows → (e : Ended) → Contains own e → IsDataOfRow rows unit e
-data_of_rows seen server s answers pipe own rows unit self strokes granted pages knows put judged replayed bears e there = by (given_by e.verb) (knows.reads e there)
+    → AllPairs (λ a b. a ≢ b) (tags_by unit rows) → KnowsAnswers unit self rows s.rows answers strokes → IsReplayed granted pages before_lines own → BearRows seen server unit rows s.rows → (e : Ended) → Contains own e → IsDataOfRow rows unit e
+data_of_rows seen server s answers pipe own rows unit self strokes granted pages knows put apart judged replayed bears e there = by (given_by e.verb) (knows.reads e there)
   where
     sums : (tag : ℕ) (outcome : Outcome) → IsGivenIf seen (record { who = server; mark = tag }) own answers outcome → (row : Served) → Contains (rows_by unit rows) row → row_tag row ≡ tag
         → SumsUp row.inn outcome
-    sums tag (outcomes.Data len total) told row has is =
-        let line = told.of_line in
-        let at = subst (λ (o : Option DataRange). IsKeptAt s.rows o (outcomes.Sent tag)) line.reads
-        (subst (λ (outcome : Outcome). IsKeptAt s.rows (range_in line.line.verb) outcome) line.sent (knows.kept line.line line.there)) in
-        let behind = sent_behind granted pages before_lines own replayed line.line line.there tag (record { at = told.range.at; len = line.len }) line.sent line.reads in
-        whole_sum len total row.inn (sums_first seen (record { who = server; mark = tag }) told.range len total row.inn (bears tag line.len told.range row at behind has is) told.told)
-        (let most = no_more unit self rows s.rows answers strokes judged tag told.range.at line.len line.said at line.noted row has is in omega (arith, most, line.cut, told.told.in_range))
-    sums tag outcome told row has is = tt
+    sums tag outcome told row has is =
+        data_sums seen server s.rows answers own rows unit self strokes knows.kept judged bears tag outcome
+        (λ range line. sent_behind granted pages before_lines own replayed line.line line.there tag (record { at = range.at; len = line.len }) line.sent line.reads) told row has is
+        (only_apart (rows_by unit rows) tag row apart has is)
 
     by : (o : Option ℕ) → IfSome o (λ tag. IsGivenIf seen (record { who = server; mark = tag }) own answers e.outcome) → IfSome o (λ tag. tells_data e.outcome ≡ true → HasRowOf rows unit tag e.outcome)
     by None told = tt
@@ -255,4 +269,4 @@ data_of_rows seen server s answers pipe own rows unit self strokes granted pages
         let range = range_told seen (record { who = server; mark = tag }) own answers e.outcome tells told in
         row_under rows unit tag e.outcome (sums tag e.outcome told)
         (row_noted pipe answers s.kept (tags_by unit rows) s.rows tag knows.laws knows.order put (noted_tag own answers tag range.0 range.1)
-        (inward_at s.rows own answers tag range.0 knows.kept range.1))
+        (ap is_inward (placed_at s.rows own answers tag range.0 knows.kept range.1).1))

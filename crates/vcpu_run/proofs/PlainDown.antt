@@ -62,14 +62,14 @@ off_fails granted now pair off follows = by pair.driver follows
     }
 
 -- so it was before: it followed its lines, or its queue was freed before
-abbrev Stood : (granted : ℕ) → Replay → Pair → Type 0
+abbrev pub Stood : (granted : ℕ) → Replay → Pair → Type 0
 Stood granted now pair = PairIs (FollowsReplay granted now) pair ⊎ PairIs WasFailed pair
 
-off_failed : (granted : ℕ) (now : Replay) (pair : Pair) → (side_of pair.link false).registered ≡ false → Stood granted now pair → PairIs WasFailed pair
+pub off_failed : (granted : ℕ) (now : Replay) (pair : Pair) → (side_of pair.link false).registered ≡ false → Stood granted now pair → PairIs WasFailed pair
 off_failed granted now pair off (inl follows) = off_fails granted now pair off follows
 off_failed granted now pair off (inr failed) = failed
 
-may_fail : (granted : ℕ) (now : Replay) (words : List Word) (pair : Pair) → words ≡ [] → Stood granted now pair
+pub may_fail : (granted : ℕ) (now : Replay) (words : List Word) (pair : Pair) → words ≡ [] → Stood granted now pair
     → ((words ≡ []) × ((side_of pair.link false).registered ≡ true)) ⊎ PairIs WasFailed pair
 may_fail granted now words pair none (inr failed) = inr failed
 may_fail granted now words pair none (inl follows) = by (side_of pair.link false).registered refl
@@ -79,7 +79,7 @@ may_fail granted now words pair none (inl follows) = by (side_of pair.link false
     by false off = inr (off_fails granted now pair off follows)
 
 -- a line that fails the partition takes no step of a client's
-fail_follows : (granted u : ℕ) (line : Line) (p : Progress) (now : Replay) (pair : Pair) → fails line.verb ≡ true → StandsAt granted u (Some line) p now pair → Stood granted now pair
+pub fail_follows : (granted u : ℕ) (line : Line) (p : Progress) (now : Replay) (pair : Pair) → fails line.verb ≡ true → StandsAt granted u (Some line) p now pair → Stood granted now pair
 fail_follows granted u line p now pair failing (inr failed) = inr failed.1
 fail_follows granted u line p now pair failing (inl stands) = inl (by (line.unit == u) (subst (λ (verb : Verb). OfUnit (line.unit == u) (PairIs (HasCome granted verb p now) pair) (PairIs (FollowsReplay granted now) pair)) (fail_is line.verb failing) stands))
   where
@@ -110,7 +110,7 @@ failed_asks granted unit old new f = by new.driver f.talks f.rows
             subst (All (KeepsLogin driver.client.rows)) (sym one) (All-cons (KeepsLogin driver.client.rows) gone [] tt (All-nil (KeepsLogin driver.client.rows)))
 
 -- and is owed no more than before
-failed_owes : (granted : ℕ) (unit : Unit) (old new : Pair) → (f : PairFailed granted unit [] old new) → owes_at unit f.later new ≤ owes_at unit [] old
+pub failed_owes : (granted : ℕ) (unit : Unit) (old new : Pair) → (f : PairFailed granted unit [] old new) → owes_at unit f.later new ≤ owes_at unit [] old
 failed_owes granted unit old new f = by f.left
   where
     none : (o : Option Driver) → IsSomeAnd o (λ driver. (unit : Unit) → WasFailed (between_of unit driver new)) → owes_to unit f.later o new ≡ 0

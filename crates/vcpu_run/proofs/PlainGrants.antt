@@ -50,12 +50,12 @@ grants_in lines = length (filter grants_login lines)
 in_more : (old more : List Grant) → grants_in (old ++ more) ≡ grants_in old + grants_in more
 in_more old more = ap length (filter-append grants_login old more) ∙ length-append (filter grants_login old) (filter grants_login more)
 
-of_more : (unit : UnitId) (old more : List Grant) → grants_of unit (old ++ more) ≡ grants_of unit old + grants_of unit more
+pub of_more : (unit : UnitId) (old more : List Grant) → grants_of unit (old ++ more) ≡ grants_of unit old + grants_of unit more
 of_more unit old more =
     ap length (filter-append (λ line. same_unit (unit_of line) unit && grants_login line) old more)
     ∙ length-append (filter (λ line. same_unit (unit_of line) unit && grants_login line) old) (filter (λ line. same_unit (unit_of line) unit && grants_login line) more)
 
-same_self : (unit : UnitId) → same_unit unit unit ≡ true
+pub same_self : (unit : UnitId) → same_unit unit unit ≡ true
 same_self unit = grind (arith, nat_tests)
 
 of_step : (a b : Bool) (line : Grant) (xs ys : List Grant) → a ≡ true → length xs ≡ length ys → length (cond (a && b) (line ∷ xs) xs) ≡ length (cond b (line ∷ ys) ys)

@@ -78,7 +78,7 @@ counted_answer (units.TskMgmt task) answer is suits = absurd suits
 counted_answer (units.Cmd command) answer is suits = absurd suits
 counted_answer asked answer isnt suits = absurd (cc (isnt))
 
-slot_first : (tag : ℕ) (oldest : Outgoing) (others : List Outgoing) → oldest.tag ≡ tag → slot_of tag (oldest ∷ others) ≡ Some oldest.slot
+pub slot_first : (tag : ℕ) (oldest : Outgoing) (others : List Outgoing) → oldest.tag ≡ tag → slot_of tag (oldest ∷ others) ≡ Some oldest.slot
 slot_first tag oldest others is =
     ap (λ b. option_map (λ (o : Outgoing). o.slot) (cond b (Some oldest) (find (λ (o : Outgoing). o.tag == tag) others))) (eq-eqb oldest.tag tag is)
 

@@ -107,7 +107,7 @@ named_data window (units.TskMgmt task) list is = absurd is
 named_data window iu list is = absurd is
 
 -- the pieces that were read are those that the table names
-list_places : (window : PortState) → IsOwnWindow window → (ask : Ask) → DataLies window ask → (list : List Desc) → IsNamed (stood window) (inn_of ask.iu) list → (j : ℕ) → j < sum_of list
+pub list_places : (window : PortState) → IsOwnWindow window → (ask : Ask) → DataLies window ask → (list : List Desc) → IsNamed (stood window) (inn_of ask.iu) list → (j : ℕ) → j < sum_of list
     → address_of list j ≡ Some (ask.start + j)
 list_places window own ask lies list names =
     let read : names.table ≡ lies.bytes =
@@ -134,14 +134,14 @@ pub entry_is : (window : PortState) → IsOwnWindow window → (address len page
 entry_is window own address len page stroke lies = sym ((own.values lies.entry).names lies.named.version lies.named.value lies.named.current.shown) ∙ lies.named.named
 
 -- it is not one of an answer
-behind_slots : (window : PortState) → IsOwnWindow window → (address len page slot : ℕ) (stroke : StrokeValue) → StrokeLiesIn window.values address len page stroke → DATA_START ≤ 4096 * page
+pub behind_slots : (window : PortState) → IsOwnWindow window → (address len page slot : ℕ) (stroke : StrokeValue) → StrokeLiesIn window.values address len page stroke → DATA_START ≤ 4096 * page
     → address ≡ slot_address slot → slot ≤ SLOTS → len ≤ 256 → ⊥
 behind_slots window own address len page slot stroke lies behind is within few =
     let entry : lies.entry ≡ page = entry_is window own address len page stroke lies in
     omega (arith, entry, lies.to, behind, is, within, few)
 
 -- it bears data at their place
-data_borne : (name : StrokeName) (list : List Desc) (inn bytes : List ℕ) (start address entry page : ℕ) (stroke : StrokeValue) → entry ≡ page → address ≤ 4096 * entry + stroke.offset
+pub data_borne : (name : StrokeName) (list : List Desc) (inn bytes : List ℕ) (start address entry page : ℕ) (stroke : StrokeValue) → entry ≡ page → address ≤ 4096 * entry + stroke.offset
     → 4096 * entry + stroke.offset + length stroke.bytes ≤ address + length bytes
     → ((k : ℕ) → k < length stroke.bytes → slice_index stroke.bytes k ≡ slice_index bytes (4096 * entry + stroke.offset + k - address))
     → IsDataPart name list inn address bytes stroke.name → ((j : ℕ) → j < sum_of list → address_of list j ≡ Some (start + j)) → IsInPlace inn start page stroke

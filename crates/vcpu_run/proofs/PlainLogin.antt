@@ -32,7 +32,7 @@ use Rattle.vcpu_run.proofs.PlainTurns.{come_same}
 use Rattle.vcpu_run.proofs.PlainUnits.{canon_some}
 
 -- a slot for a login
-login_free : (s : ClientState) (slot : ℕ) → IsLoginSlot s slot → (slot ≤ SLOTS) × IsFreeFor s slot
+pub login_free : (s : ClientState) (slot : ℕ) → IsLoginSlot s slot → (slot ≤ SLOTS) × IsFreeFor s slot
 login_free s slot (inl least) = (omega (arith, least.within), inl least.free)
 login_free s slot (inr behind) = (omega (arith, behind.1), inr behind.1)
 

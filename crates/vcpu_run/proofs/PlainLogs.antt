@@ -47,7 +47,7 @@ abbrev pub IsFreeFor : ClientState → (slot : ℕ) → Type 0
 IsFreeFor s slot = (is_used s slot ≡ false) ⊎ (slot ≡ SLOTS)
 
 -- none of what the client asked has it
-free_asks : (s : ClientState) (slot : ℕ) (asked : List Ask) (names : List Outgoing) → names_of asked ≡ names → IsFreeFor s slot → All IsAsk asked → has_login asked ≡ false
+pub free_asks : (s : ClientState) (slot : ℕ) (asked : List Ask) (names : List Outgoing) → names_of asked ≡ names → IsFreeFor s slot → All IsAsk asked → has_login asked ≡ false
     → All (λ ask. is_logout ask.iu ≡ true → s.logout ≡ Some ask.slot) asked → (is_used s slot ≡ false → All (λ (name : Outgoing). name.slot ≢ slot) names)
     → All (λ one. one.slot ≢ slot) asked
 free_asks s slot [] names is free each none logouts apart = All-nil (λ (one : Ask). one.slot ≢ slot)

@@ -34,13 +34,13 @@ use Rattle.vcpu_run.specs.PlainRejected.{IsOfRejection}
 
 -- ---- the registration, and what follows
 
-record Splits (line : ℕ) (later : List LoginStep) (answer : RegAnswer) (a b : Site) : Type 0 where
-  first : Site
-  registered : Steps line (Registered answer) a first
-  hands : SameHands a first
-  runs : Runs line later first b
+pub record Splits (line : ℕ) (later : List LoginStep) (answer : RegAnswer) (a b : Site) : Type 0 where
+  pub first : Site
+  pub registered : Steps line (Registered answer) a first
+  pub hands : SameHands a first
+  pub runs : Runs line later first b
 
-splits : (line : ℕ) (later : List LoginStep) (answer : RegAnswer) (a b : Site) → Runs line (later ++ Registered answer ∷ []) a b → Splits line later answer a b
+pub splits : (line : ℕ) (later : List LoginStep) (answer : RegAnswer) (a b : Site) → Runs line (later ++ Registered answer ∷ []) a b → Splits line later answer a b
 splits line [] answer a b (m, same, did, hands) = record {
   first = b;
   registered = subst (λ (x : Site). Steps line (Registered answer) x b) same did;
@@ -51,19 +51,19 @@ splits line (step ∷ later) answer a b (m, runs, did, hands) =
     let rest = splits line later answer a m runs in
     record { first = rest.first; registered = rest.registered; hands = rest.hands; runs = (m, rest.runs, did, hands) }
 
-none_front : (later : List LoginStep) (step : LoginStep) → NoneEnds (later ++ step ∷ []) → NoneEnds later
+pub none_front : (later : List LoginStep) (step : LoginStep) → NoneEnds (later ++ step ∷ []) → NoneEnds later
 none_front [] step going = refl
 none_front (first ∷ later) step going =
     let both = both_false (ends_turn first) (list_any ends_turn (later ++ step ∷ [])) going in
     ap₂ (λ (b c : Bool). b || c) both.0 (none_front later step both.1)
 
 -- the last step, behind the registration
-record LastStep (later : List LoginStep) (answer : RegAnswer) (step : LoginStep) (rest : List LoginStep) : Type 0 where
-  before : List LoginStep
-  are : later ≡ step ∷ before
-  rest_are : before ++ Registered answer ∷ [] ≡ rest
+pub record LastStep (later : List LoginStep) (answer : RegAnswer) (step : LoginStep) (rest : List LoginStep) : Type 0 where
+  pub before : List LoginStep
+  pub are : later ≡ step ∷ before
+  pub rest_are : before ++ Registered answer ∷ [] ≡ rest
 
-last_step : (later : List LoginStep) (answer : RegAnswer) (step : LoginStep) (rest : List LoginStep) → later ++ Registered answer ∷ [] ≡ step ∷ rest
+pub last_step : (later : List LoginStep) (answer : RegAnswer) (step : LoginStep) (rest : List LoginStep) → later ++ Registered answer ∷ [] ≡ step ∷ rest
     → LastStep later answer step rest ⊎ ((later ≡ []) × (step ≡ Registered answer))
 last_step [] answer step rest is = inr (refl, first_same (Registered answer) step [] rest is)
   where
@@ -95,7 +95,7 @@ record Leads (granted line : ℕ) (now : Replay) (at : Between) (answer : RegAns
   pauses : NoneEnds later → Pauses at.own.place.own_slots (later ++ Registered answer ∷ []) b → GoesOn granted now (length at.client.rows) (end_at at b server)
   looks : (found : Found) (before : List LoginStep) → later ≡ Looked found ∷ before → NoneEnds before → ends_login found ≡ true → EndsAs granted now (length at.client.rows) (end_at at b server) found
 
-busy_last : (later before : List LoginStep) (answer : RegAnswer) → later ≡ Registered answer ∷ before → FollowOn 1 later → ⊥
+pub busy_last : (later before : List LoginStep) (answer : RegAnswer) → later ≡ Registered answer ∷ before → FollowOn 1 later → ⊥
 busy_last later before answer is follow =
     let order = (subst (FollowOn 1) is follow).0 in
     omega (arith, order, least before)

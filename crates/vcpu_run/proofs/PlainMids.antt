@@ -62,7 +62,7 @@ mid_stays at b ends only most = record {
 }
 
 -- it takes no more than it received
-takes_most : (at mid : ClientState) (old new : EndState) → TakesNext false at mid old new → TookNoMore old → TookNoMore new
+pub takes_most : (at mid : ClientState) (old new : EndState) → TakesNext false at mid old new → TookNoMore old → TookNoMore new
 takes_most at mid old new takes most =
     omega (arith, most, length-drop (length (taken_now old)) (received_now old), ap length come, ap length received, ap length taken ∙ length-append (taken_now old) (takes.entry ∷ []))
   where

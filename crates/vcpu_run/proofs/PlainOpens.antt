@@ -32,10 +32,10 @@ use Rattle.vcpu_run.proofs.PlainTurns.{come_same}
 -- ---- a queue that is registered
 
 -- The registration found it so, and changed nothing but the room.
-record FindsOpen (s s' : ClientState) (old new : EndState) (answer : RegAnswer) : Type 0 where
-  ready : OnlyReserves old new
-  client : s' ≡ s
-  going : ends_turn (Registered answer) ≡ false
+pub record FindsOpen (s s' : ClientState) (old new : EndState) (answer : RegAnswer) : Type 0 where
+  pub ready : OnlyReserves old new
+  pub client : s' ≡ s
+  pub going : ends_turn (Registered answer) ≡ false
 
 pub reserves_on : (a b c : EndState) → OnlyReserves a b → OnlyReserves b c → OnlyReserves a c
 reserves_on a b c first next = record {
@@ -49,7 +49,7 @@ reserves_on a b c first next = record {
   counts = next.counts ∙ first.counts;
 }
 
-finds_open : (s s' : ClientState) (old new : EndState) (answer : RegAnswer) → old.registered ≡ true → Registers false s s' old new answer → FindsOpen s s' old new answer
+pub finds_open : (s s' : ClientState) (old new : EndState) (answer : RegAnswer) → old.registered ≡ true → Registers false s s' old new answer → FindsOpen s s' old new answer
 finds_open s s' old new answer there registers = by answer registers.registers
   where
     room : registers.room.registered ≡ true
@@ -63,7 +63,7 @@ finds_open s s' old new answer there registers = by answer registers.registers
     by reg.Parameter none = absurd none
 
 -- the counts are as they were
-takes_nothing : (old new : EndState) → OnlyReserves old new → OnlyTakes false old new
+pub takes_nothing : (old new : EndState) → OnlyReserves old new → OnlyTakes false old new
 takes_nothing old new ready = record {
   place = ready.place;
   last_session = ready.last_session;

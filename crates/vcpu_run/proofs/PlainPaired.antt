@@ -43,7 +43,7 @@ use Rattle.vcpu_run.specs.Machines.{server_id}
 use Rattle.vcpu_run.specs.PlainBorne.{AreBorne, rows_by}
 use Rattle.vcpu_run.specs.PlainClients.{ends_by_client, grants_of, granted_in}
 use Rattle.vcpu_run.specs.PlainNoted.{AreAnswers, AreAskedFor, IsLaidAnswer}
-use Rattle.vcpu_run.specs.PlainPairs.{EndByClient, IsIdleUnit, IsNewPair, IsPlainPair, IsReadyPair, ServerBooks, SparesUnit, between_of}
+use Rattle.vcpu_run.specs.PlainPairs.{EndByClient, IsIdleUnit, IsNewBetween, IsNewPair, IsPlainPair, IsReadyPair, ServerBooks, SparesUnit, between_of}
 use Rattle.vcpu_run.specs.PlainRows.{TagsKept, tags_by, AnswersKept, EntriesKept}
 use Rattle.vcpu_run.specs.PlainTalk.{AreSaidThere, Between, ClientStays, HasRights, IsCalm, IsOwnWindow, TalksPlainly, TookNoMore, owes}
 use Rattle.vcpu_run.proofs.PlainAnswered.{plainly_served}
@@ -135,7 +135,7 @@ idle_side first link registered = none (side_of link first).kept ((side_of link 
     none None is = refl
     none (Some event) is = absurd (cc (is))
 
-client_stays : (a b : List GName) (unit unit' : Unit) (driver : Driver) (old new : Pair) → (end_of b new.link true).place ≡ (end_of a old.link true).place
+pub client_stays : (a b : List GName) (unit unit' : Unit) (driver : Driver) (old new : Pair) → (end_of b new.link true).place ≡ (end_of a old.link true).place
     → (end_of b new.link true).counts.partner_session ≡ (end_of a old.link true).counts.partner_session → PutsMore (end_of a old.link true).sent (end_of b new.link true).sent
     → TookNoMore (end_of b new.link true) → TookNoMore (end_of [] old.link false) → IsOwnWindow (known_of new.window)
     → ClientStays (lent_at a [] (between_of unit driver old)) (lent_at b [] (between_of unit' driver new))
@@ -244,7 +244,7 @@ tags_behind unit unit' old new lines lines' rows rows' words id last own turn on
     by (inr (request, rest, items, inr one)) = served request rest items one.put.over.pending
 
 -- what the client noted stays laid
-noted_on : (old new : PortState) (answers : List AnswerRow) → new.place ≡ old.place → StrokesStay old.strokes new.strokes → All (IsLaidAnswer old.place.unit old.strokes) answers
+pub noted_on : (old new : PortState) (answers : List AnswerRow) → new.place ≡ old.place → StrokesStay old.strokes new.strokes → All (IsLaidAnswer old.place.unit old.strokes) answers
     → All (IsLaidAnswer new.place.unit new.strokes) answers
 noted_on old new answers place stay all =
     subst (λ (own : UnitId). All (IsLaidAnswer own new.strokes) answers) (sym (ap (λ (p : PortPlace). p.unit) place)) (all_laid_on old.place.unit old.strokes new.strokes stay answers all)
@@ -265,7 +265,7 @@ served_plain granted told home k many name books books' a b old new words called
     let stays = client_stays a b plain.unit on.unit' plain.driver old new turns.place turns.partner turns.put turns.took talks.calm.ends.own_took own in
     let id : at'.unit.id ≡ at.unit.id = turns.ids plain.unit on.unit' plain.there on.there in
     let after : TalksPlainly granted at' [] =
-    plainly_served granted at at' books.lines books'.lines books.rows books'.rows name words talks turn stays rights id (called ∙ sym (id ∙ plain.id))
+    plainly_served granted at at' books.lines books'.lines books.rows books'.rows name words talks turn stays id (called ∙ sym (id ∙ plain.id))
     (λ e. plain.apart (e ∙ id ∙ plain.id)) turns.window_place wrote
     (turns.leaves words plain.unit plain.there ready) in
     let tags : TagsKept (tags_by (server_id home k) books'.rows) (length plain.driver.client.rows) on.unit'.pending.items =
@@ -301,18 +301,31 @@ served_plain granted told home k many name books books' a b old new words called
       noted = noted_on at.window at'.window plain.driver.answers.items turns.window_place (serve_stays at at' books.lines books'.lines words turn wrote) plain.noted;
     }
 
--- its first one
-opened_pair : (granted : ℕ) (told : List Ended) (home k : ℕ) (name : UnitId) (books books' : ServerBooks) (a b : List GName) (old new : Pair) → new.driver ≡ old.driver
-    → TurnsOn name books books' k (end_of a old.link true) (end_of b new.link true) (known_of old.window) (known_of new.window)
-    → IsNewPair granted told home books k old → IsPlainPair granted told home books' k [] new
-opened_pair granted told home k name books books' a b old new driver turns is =
-    let at : Between = lent_at a [] (between_of is.unit is.driver old) in
-    let made = is.new.made in
-    let on = turns.opens is.unit is.there (record { alone = made.alone; apart = made.apart; unregistered = made.unregistered; partner = made.partner; event = made.event; made = made.made }) in
+-- What the first turn leads to: the unit and the client talk, and neither rows, nor lines, nor the window changed.
+pub record OpenedBetween (granted k : ℕ) (books books' : ServerBooks) (unit : Unit) (driver : Driver) (old new : Pair) : Type 0 where
+  pub unit' : Unit
+  pub there : slice_get books'.units k ≡ Some unit'
+  pub id : unit'.id ≡ unit.id
+  pub talks : TalksPlainly granted (between_of unit' driver new) []
+  pub owes : owes (between_of unit' driver new) [] ≡ 0
+  pub registered : (side_of new.link false).registered ≡ (side_of old.link false).registered
+  pub pending : unit'.pending.items ≡ []
+  pub sent : (end_of [] new.link true).sent ≡ (end_of [] old.link true).sent
+  pub window : known_of new.window ≡ known_of old.window
+  pub lines_are : books'.lines ≡ books.lines
+  pub rows_are : books'.rows ≡ books.rows
+
+pub opened_between : (granted k : ℕ) (name : UnitId) (books books' : ServerBooks) (a b : List GName) (unit : Unit) (driver : Driver) (old new : Pair) → slice_get books.units k ≡ Some unit
+    → TurnsOn name books books' k (end_of a old.link true) (end_of b new.link true) (known_of old.window) (known_of new.window) → IsNewBetween granted (between_of unit driver old)
+    → OpenedBetween granted k books books' unit driver old new
+opened_between granted k name books books' a b unit driver old new there turns is =
+    let at : Between = lent_at a [] (between_of unit driver old) in
+    let made = is.made in
+    let on = turns.opens unit there (record { alone = made.alone; apart = made.apart; unregistered = made.unregistered; partner = made.partner; event = made.event; made = made.made }) in
     let opens = on.opens.opens in
-    let at' : Between = lent_at b [] (between_of on.unit' is.driver new) in
-    let own : IsOwnWindow at'.window = subst IsOwnWindow (sym opens.window) is.new.usable in
-    let stays = client_stays a b is.unit on.unit' is.driver old new turns.place turns.partner turns.put turns.took is.new.ends.own_took own in
+    let at' : Between = lent_at b [] (between_of on.unit' driver new) in
+    let own : IsOwnWindow at'.window = subst IsOwnWindow (sym opens.window) is.usable in
+    let stays = client_stays a b unit on.unit' driver old new turns.place turns.partner turns.put turns.took is.ends.own_took own in
     let calm : IsCalm granted at' [] = record {
       registered = opens.registered;
       closing = opens.closing;
@@ -321,53 +334,74 @@ opened_pair granted told home k name books books' a b old new driver turns is =
       kept = opens.kept;
       event = opens.event;
       stage = opens.stage;
-      grants = ap (λ (l : Logins). l.granted) opens.logins ∙ is.new.grants;
-      most = is.new.most;
+      grants = ap (λ (l : Logins). l.granted) opens.logins ∙ is.grants;
+      most = is.most;
       ends = stays.ends;
-      server_slots = subst (λ n. 256 ≤ n) (sym (ap (λ (p : EndPlace). p.own_slots) turns.place)) is.new.server_slots;
-      own_slots = subst (λ n. 256 ≤ n) (sym stays.slots) is.new.own_slots;
+      server_slots = subst (λ n. 256 ≤ n) (sym (ap (λ (p : EndPlace). p.own_slots) turns.place)) is.server_slots;
+      own_slots = subst (λ n. 256 ≤ n) (sym stays.slots) is.own_slots;
       usable = own;
       said = subst (λ (entries : List Entry). AreSaidThere at'.window entries []) (sym opens.none) tt;
     } in
     record {
-      unit = on.unit';
+      unit' = on.unit';
       there = on.there;
-      id = opens.id ∙ is.id;
-      driver = is.driver;
-      driver_is = driver ∙ is.driver_is;
+      id = opens.id;
       talks = talks_lent [] [] granted at' []
-          (starts_plainly granted at' is.new.client.0 is.new.client.1 calm is.new.client.2 (stays.registered ∙ is.new.registered) (stays.kept ∙ is.new.kept) (record {
+          (starts_plainly granted at' is.client.0 is.client.1 calm is.client.2 (stays.registered ∙ is.registered) (stays.kept ∙ is.kept) (record {
             current = ap (λ (l : Logins). l.current) opens.logins ∙ made.made.current;
             taking = ap (λ (l : Logins). l.taking) opens.logins ∙ made.made.taking;
             pending = opens.pending;
           }));
-      rights = rights_same at.window at'.window (ap (λ (port : PortState). port.values) opens.window) is.rights;
-      laid = lines_move is.unit.id on.unit'.id at.window.strokes at'.window.strokes opens.id
-          (λ page stroke there. subst (λ (port : PortState). IsOn stroke (port.strokes page)) (sym opens.window) there) told is.laid;
-      owed =
-          let none : owes (between_of on.unit' is.driver new) [] ≡ 0 = owes_none at' [] (inl (stays.registered ∙ is.new.registered)) in
-          let same : grants_of (server_id home k) books'.lines ≡ grants_of (server_id home k) books.lines = ap (grants_of (server_id home k)) on.opens.lines_are in
-          omega (arith, none, same, is.owed);
-      lines = subst (EndByClient (server_id home k)) (sym on.opens.lines_are) is.lines;
-      tags = λ talk heard.
-          subst (λ (tags : List ℕ). TagsKept tags (length is.driver.client.rows) talk.pending) (sym (ap (tags_by (server_id home k)) on.opens.rows_are ∙ is.tags))
-          (subst (TagsKept [] (length is.driver.client.rows)) (sym (ap (λ (t : Talk). t.pending) heard ∙ opens.pending)) (tags_new (length is.driver.client.rows)));
-      answers = λ talk heard.
-          answers_new (tags_by (server_id home k) books'.rows) is.driver.client at'.server.sent talk.pending (opens.sent ∙ is.sent) (ap (λ (t : Talk). t.pending) heard ∙ opens.pending)
-          (ap (λ (s : ClientState). s.outgoing) is.new.client.2);
-      entries = λ talk heard. entries_new (rows_by (server_id home k) books'.rows) at'.server.sent talk.pending (opens.sent ∙ is.sent);
-      apart = λ same. is.apart (sym (ap (λ (place : PortPlace). place.unit) turns.window_place) ∙ same);
-      borne = subst (λ (rows : List Served). AreBorne (rows_by (server_id home k) rows) (server_id home k) is.driver.client.rows (known_of new.window).strokes) (sym on.opens.rows_are)
-          (subst (λ (port : PortState). AreBorne (rows_by (server_id home k) books.rows) (server_id home k) is.driver.client.rows port.strokes) (sym opens.window) is.borne);
-      answered = subst (λ (rows : List Served). AreAnswers (rows_by (server_id home k) rows) at'.window.place.unit at'.window.strokes) (sym on.opens.rows_are)
-          (subst (λ (port : PortState). AreAnswers (rows_by (server_id home k) books.rows) port.place.unit port.strokes) (sym opens.window) is.answered);
-      sized = subst (λ (rows : List Served). AreAskedFor (rows_by (server_id home k) rows) is.driver.client.rows) (sym on.opens.rows_are) is.sized;
-      noted = noted_on at.window at'.window is.driver.answers.items turns.window_place
-          (λ page stroke there. subst (λ (port : PortState). IsOn stroke (port.strokes page)) (sym opens.window) there) is.noted;
+      owes = owes_none at' [] (inl (stays.registered ∙ is.registered));
+      registered = stays.registered;
+      pending = opens.pending;
+      sent = opens.sent;
+      window = opens.window;
+      lines_are = on.opens.lines_are;
+      rows_are = on.opens.rows_are;
     }
   where
     waiting_down : Waiting ≡ Down → ⊥
     waiting_down e = cc (e)
+
+-- its first one
+opened_pair : (granted : ℕ) (told : List Ended) (home k : ℕ) (name : UnitId) (books books' : ServerBooks) (a b : List GName) (old new : Pair) → new.driver ≡ old.driver
+    → TurnsOn name books books' k (end_of a old.link true) (end_of b new.link true) (known_of old.window) (known_of new.window)
+    → IsNewPair granted told home books k old → IsPlainPair granted told home books' k [] new
+opened_pair granted told home k name books books' a b old new driver turns is = record {
+  unit = opens.unit';
+  there = opens.there;
+  id = opens.id ∙ is.id;
+  driver = is.driver;
+  driver_is = driver ∙ is.driver_is;
+  talks = opens.talks;
+  rights = rights_same (known_of old.window) (known_of new.window) (ap (λ (port : PortState). port.values) opens.window) is.rights;
+  laid = lines_move is.unit.id opens.unit'.id (known_of old.window).strokes (known_of new.window).strokes opens.id stay told is.laid;
+  owed =
+      let same : grants_of (server_id home k) books'.lines ≡ grants_of (server_id home k) books.lines = ap (grants_of (server_id home k)) opens.lines_are in
+      omega (arith, opens.owes, same, is.owed);
+  lines = subst (EndByClient (server_id home k)) (sym opens.lines_are) is.lines;
+  tags = λ talk heard.
+      subst (λ (tags : List ℕ). TagsKept tags (length is.driver.client.rows) talk.pending) (sym (ap (tags_by (server_id home k)) opens.rows_are ∙ is.tags))
+      (subst (TagsKept [] (length is.driver.client.rows)) (sym (ap (λ (t : Talk). t.pending) heard ∙ opens.pending)) (tags_new (length is.driver.client.rows)));
+  answers = λ talk heard.
+      answers_new (tags_by (server_id home k) books'.rows) is.driver.client (end_of [] new.link true).sent talk.pending (opens.sent ∙ is.sent)
+      (ap (λ (t : Talk). t.pending) heard ∙ opens.pending) (ap (λ (s : ClientState). s.outgoing) is.new.client.2);
+  entries = λ talk heard. entries_new (rows_by (server_id home k) books'.rows) (end_of [] new.link true).sent talk.pending (opens.sent ∙ is.sent);
+  apart = λ same. is.apart (sym (ap (λ (place : PortPlace). place.unit) turns.window_place) ∙ same);
+  borne = subst (λ (rows : List Served). AreBorne (rows_by (server_id home k) rows) (server_id home k) is.driver.client.rows (known_of new.window).strokes) (sym opens.rows_are)
+      (subst (λ (port : PortState). AreBorne (rows_by (server_id home k) books.rows) (server_id home k) is.driver.client.rows port.strokes) (sym opens.window) is.borne);
+  answered = subst (λ (rows : List Served). AreAnswers (rows_by (server_id home k) rows) (known_of new.window).place.unit (known_of new.window).strokes) (sym opens.rows_are)
+      (subst (λ (port : PortState). AreAnswers (rows_by (server_id home k) books.rows) port.place.unit port.strokes) (sym opens.window) is.answered);
+  sized = subst (λ (rows : List Served). AreAskedFor (rows_by (server_id home k) rows) is.driver.client.rows) (sym opens.rows_are) is.sized;
+  noted = noted_on (known_of old.window) (known_of new.window) is.driver.answers.items turns.window_place stay is.noted;
+}
+  where
+    opens : OpenedBetween granted k books books' is.unit is.driver old new
+    opens = opened_between granted k name books books' a b is.unit is.driver old new is.there turns is.new
+
+    stay : StrokesStay (known_of old.window).strokes (known_of new.window).strokes
+    stay page stroke there = subst (λ (port : PortState). IsOn stroke (port.strokes page)) (sym opens.window) there
 
 pub served_pair : (granted : ℕ) (told : List Ended) (home k many : ℕ) (name : UnitId) (books books' : ServerBooks) (a b : List GName) (old new : Pair) → name ≡ server_id home k → new.driver ≡ old.driver
     → ∥ LinesMore (server_id home k) many books.lines books'.lines ∥₁ → TurnsOn name books books' k (end_of a old.link true) (end_of b new.link true) (known_of old.window) (known_of new.window)

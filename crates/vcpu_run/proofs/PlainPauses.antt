@@ -66,7 +66,7 @@ spent_none granted now at steps b starts counts (inr (inl all)) = absurd (omega 
 spent_none granted now at steps b starts counts (inr (inr used)) = absurd (true≢false (sym used ∙ counts.unused))
 
 -- a login begins where none is under way
-begins_now : (s : ClientState) → is_up s.handshake ≡ true → s.login ≡ Idle → s.due ≡ [] → begins s ≡ true
+pub begins_now : (s : ClientState) → is_up s.handshake ≡ true → s.login ≡ Idle → s.due ≡ [] → begins s ≡ true
 begins_now s up idle none =
     ap (λ b. b && (is_idle s.login && not (list_any is_login s.due))) up
     ∙ ap (λ (stage : Stage). is_idle stage && not (list_any is_login s.due)) idle

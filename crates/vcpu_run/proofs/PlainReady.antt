@@ -47,7 +47,7 @@ login_few Idle = omega arith
 login_few (Written tag slot) = omega arith
 login_few (Sent tag slot) = omega arith
 
-awaited_few : (s : ClientState) → length s.outgoing ≤ 200 → length (awaited s) ≤ 201
+pub awaited_few : (s : ClientState) → length s.outgoing ≤ 200 → length (awaited s) ≤ 201
 awaited_few s few =
     omega (arith, few, length-append s.outgoing (login_name s.login), login_few s.login)
 
@@ -197,7 +197,7 @@ one_comes granted at words asked answers n talk (ask ∷ []) is =
 one_comes granted at words asked answers n talk (ask ∷ next ∷ more) is =
     absurd (omega (arith, talk.few, ap (λ (list : List Ask). length list) is))
 
-in_order : (granted : ℕ) (at : Between) (words : List Word) (n : ℕ) → IsCalm granted at words → InPhase granted at words → ComeInOrder (talk_of at.unit) n words
+pub in_order : (granted : ℕ) (at : Between) (words : List Word) (n : ℕ) → IsCalm granted at words → InPhase granted at words → ComeInOrder (talk_of at.unit) n words
 in_order granted at words n calm (inl away) = by away.heard
   where
     by : HearsOfGone at words → ComeInOrder (talk_of at.unit) n words
@@ -236,7 +236,7 @@ own_few granted at words (inr (inr (asked, answers, talk))) there =
 come_long : (end : EndState) → TookNoMore end → length (received_now end) ≡ length (taken_now end) + length (to_come end)
 come_long end took = omega (arith, took, length-drop (length (taken_now end)) (received_now end))
 
-room_for : (server own : EndState) (count : ℕ) → AreEnds server own → (own.registered ≡ true → length (to_come own) + count ≤ own.place.own_slots) → HasRoomFor server count
+pub room_for : (server own : EndState) (count : ℕ) → AreEnds server own → (own.registered ≡ true → length (to_come own) + count ≤ own.place.own_slots) → HasRoomFor server count
 room_for server own count ends few registered =
     let sent : length (sent_now server server.counts.partner_session) ≡ length (received_now own) =
     ap (λ q. length (of_session q server.sent)) ends.server_sees.session ∙ ap (λ (rows : List PipeRow). length (of_session own.last_session rows)) (sym ends.server_sees.received) in

@@ -118,7 +118,7 @@ served_none home books pairs = record {
   later = λ k upto. (record { same = refl; lines = λ is. is; grants = omega arith; rows = refl }, refl);
 }
 
-spares_on : (home k : ℕ) (books middle books' : ServerBooks) → SparesUnit home books middle k → SparesUnit home middle books' k → SparesUnit home books books' k
+pub spares_on : (home k : ℕ) (books middle books' : ServerBooks) → SparesUnit home books middle k → SparesUnit home middle books' k → SparesUnit home books books' k
 spares_on home k books middle books' first next = record {
   same = next.same ∙ first.same;
   lines = λ is. next.lines (first.lines is);

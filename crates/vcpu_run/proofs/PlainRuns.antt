@@ -52,7 +52,7 @@ seat_same script later u k rest seat = record {
 }
 
 -- the script of the server units is where it was
-behind_set : (home i n : ℕ) (scripts : List Script) (script later : Script) → slice_get scripts n ≡ Some script → OnlyRuns script later → ComesBehind home i scripts
+pub behind_set : (home i n : ℕ) (scripts : List Script) (script later : Script) → slice_get scripts n ≡ Some script → OnlyRuns script later → ComesBehind home i scripts
     → ComesBehind home i (slice_set scripts n later)
 behind_set home i n scripts script later found rest behind = record { less = behind.less; servers = by (same_or home n) }
   where

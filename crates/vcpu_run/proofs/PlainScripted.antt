@@ -87,25 +87,25 @@ stands_unit granted u line o p now pair found goes stands = by (subst (λ (x : O
     by (inl unit) = unit
     by (inr failed) = absurd (true≢false (sym failed.0 ∙ goes))
 
-stands_own : (granted u : ℕ) (line : Line) (o : Option Line) (p : Progress) (now : Replay) (pair : Pair) → o ≡ Some line → fails line.verb ≡ false → (line.unit == u) ≡ true
+pub stands_own : (granted u : ℕ) (line : Line) (o : Option Line) (p : Progress) (now : Replay) (pair : Pair) → o ≡ Some line → fails line.verb ≡ false → (line.unit == u) ≡ true
     → StandsAt granted u o p now pair → PairIs (HasCome granted line.verb p now) pair
 stands_own granted u line o p now pair found goes own stands =
     subst (λ (b : Bool). OfUnit b (PairIs (HasCome granted line.verb p now) pair) (PairIs (FollowsReplay granted now) pair)) own
     (stands_unit granted u line o p now pair found goes stands)
 
-stands_other : (granted u : ℕ) (line : Line) (o : Option Line) (p : Progress) (now : Replay) (pair : Pair) → o ≡ Some line → fails line.verb ≡ false → (line.unit == u) ≡ false
+pub stands_other : (granted u : ℕ) (line : Line) (o : Option Line) (p : Progress) (now : Replay) (pair : Pair) → o ≡ Some line → fails line.verb ≡ false → (line.unit == u) ≡ false
     → StandsAt granted u o p now pair → PairIs (FollowsReplay granted now) pair
 stands_other granted u line o p now pair found goes other stands =
     subst (λ (b : Bool). OfUnit b (PairIs (HasCome granted line.verb p now) pair) (PairIs (FollowsReplay granted now) pair)) other
     (stands_unit granted u line o p now pair found goes stands)
 
-own_stands : (granted u : ℕ) (line : Line) (o : Option Line) (p : Progress) (now : Replay) (pair : Pair) → o ≡ Some line → (line.unit == u) ≡ true
+pub own_stands : (granted u : ℕ) (line : Line) (o : Option Line) (p : Progress) (now : Replay) (pair : Pair) → o ≡ Some line → (line.unit == u) ≡ true
     → PairIs (HasCome granted line.verb p now) pair → StandsAt granted u o p now pair
 own_stands granted u line o p now pair found own come =
     subst (λ (x : Option Line). StandsAt granted u x p now pair) (sym found)
     (inl (subst (λ (b : Bool). OfUnit b (PairIs (HasCome granted line.verb p now) pair) (PairIs (FollowsReplay granted now) pair)) (sym own) come))
 
-other_stands : (granted u : ℕ) (line : Line) (o : Option Line) (p : Progress) (now : Replay) (pair : Pair) → o ≡ Some line → (line.unit == u) ≡ false
+pub other_stands : (granted u : ℕ) (line : Line) (o : Option Line) (p : Progress) (now : Replay) (pair : Pair) → o ≡ Some line → (line.unit == u) ≡ false
     → PairIs (FollowsReplay granted now) pair → StandsAt granted u o p now pair
 other_stands granted u line o p now pair found other follows =
     subst (λ (x : Option Line). StandsAt granted u x p now pair) (sym found)
@@ -283,7 +283,7 @@ waits_plainly old new script p' line did found goes suited are driven told plain
 
 -- ---- one that waits for an answer does so for its server unit
 
-awaited_ends : (granted pages : ℕ) (now : Replay) (verb : Verb) (P : Type 0) → awaits verb ≡ true → IfSome (ends_as granted pages now verb) (λ said. P) → P
+pub awaited_ends : (granted pages : ℕ) (now : Replay) (verb : Verb) (P : Type 0) → awaits verb ≡ true → IfSome (ends_as granted pages now verb) (λ said. P) → P
 awaited_ends granted pages now verbs.Login P is some = some
 awaited_ends granted pages now verbs.Reset P is some = some
 awaited_ends granted pages now (verbs.Take count) P is some = some

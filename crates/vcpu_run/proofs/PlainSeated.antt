@@ -168,11 +168,11 @@ notes_through old new a b was there drives before first next =
     notes_on new.window.unit (known_of old.window).strokes (known_of new.window).strokes before (answers_in old.driver) (answers_in new.driver) (drives_stay old new drives)
     (subst (λ (own : UnitId). NotesLaid own (known_of old.window).strokes before (answers_in old.driver)) (sym drives.unit) first) (notes_at old new a b was there next)
 
-pub pair_plainly : (verb : Verb) (p p' : Progress) (before after : ℕ) (old new : Pair) (step told : Step) → Drives old new → before ≡ length (side_of old.link true).queue.sent
-    → after ≡ length (side_of new.link true).queue.sent → TookNoMore (end_of [] new.link false) → IsToldSince before after step told → StepPuts verb step (known_of old.window).values (known_of new.window).values
+pub pair_plainly : (verb : Verb) (p p' : Progress) (before after taken taken' : ℕ) (old new : Pair) (step told : Step) → Drives old new → before ≡ length (side_of old.link true).queue.sent
+    → after ≡ length (side_of new.link true).queue.sent → TookNoMore (end_of [] new.link false) → IsToldSince before after taken taken' step told → StepPuts verb step (known_of old.window).values (known_of new.window).values
     → DriverPlainly verb p p' old new (Ok step)
     → PairPlainly verb p p' old new (Ok told)
-pair_plainly verb p p' before after old new step told drives first next own since puts is plain granted unit now spares talks come =
+pair_plainly verb p p' before after taken taken' old new step told drives first next own since puts is plain granted unit now spares talks come =
     let (a, was, talk) = driver_of (λ driver. TalksPlainly granted (between_of unit driver old) []) old.driver talks in
     let (b, there, steps_on) = driver_behind (λ a b. StepsPlainly verb p p' (own_in a old) (own_in b new) (Ok step)) old.driver new.driver a was is in
     let on = steps_on plain granted unit (end_of [] old.link true) (end_of [] new.link true) now spares
@@ -188,7 +188,7 @@ pair_plainly verb p p' before after old new step told drives first next own sinc
       rights = λ keeps. rights_put verb step (known_of old.window) (known_of new.window) keeps puts;
       stepped = step_told granted unit verb p' now new step told went since.same
           (λ quiet. none_put granted unit a b on.words old new drives own (subst (λ n. n ≤ length (side_of old.link true).queue.sent) next
-          (subst (λ n. after ≤ n) first (since.quiet quiet))) talk on.talks);
+          (subst (λ n. after ≤ n) first (since.quiet quiet).0)) talk on.talks);
     }
 
 -- the end that was lent is the pair's again
@@ -237,8 +237,8 @@ pair_rests f g x y lent old new a b (Ok moved) was there same first next drives 
     )
 
 -- what is so of a step that says it did nothing as of one that did something is so of a step as it is told
-pub since_keeps : (P : Step → Type 0) (before now : ℕ) (step told : Step) → (P (steps.Waits moves.Quiet) → P (steps.Waits moves.Moved)) → IsToldSince before now step told → P step → P told
-since_keeps P before now step told same since is = by since.same
+pub since_keeps : (P : Step → Type 0) (put put' taken taken' : ℕ) (step told : Step) → (P (steps.Waits moves.Quiet) → P (steps.Waits moves.Moved)) → IsToldSince put put' taken taken' step told → P step → P told
+since_keeps P put put' taken taken' step told same since is = by since.same
   where
     by : (told ≡ step) ⊎ ((step ≡ steps.Waits moves.Quiet) × (told ≡ steps.Waits moves.Moved)) → P told
     by (inl e) = subst P (sym e) is

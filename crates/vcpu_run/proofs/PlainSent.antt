@@ -24,7 +24,7 @@ use Rattle.vcpu_run.proofs.PlainAsks.{Sends, SendsOut}
 use Rattle.vcpu_run.proofs.PlainStarts.{push_places, starts_command, starts_none}
 
 -- a request that is not refused is granted
-lends : (granted : Option ℕ) (n : ℕ) (overlap : Option ℕ) → refused_by granted n overlap ≡ None → (m : ℕ) × (granted ≡ Some m) × (n < m)
+pub lends : (granted : Option ℕ) (n : ℕ) (overlap : Option ℕ) → refused_by granted n overlap ≡ None → (m : ℕ) × (granted ≡ Some m) × (n < m)
 lends None n overlap none = absurd (cc (none))
 lends (Some m) n overlap none = (m, refl, by (nat_le m n) refl none)
   where
@@ -32,7 +32,7 @@ lends (Some m) n overlap none = (m, refl, by (nat_le m n) refl none)
     by true is none = absurd (cc (none))
     by false is none = grind (arith, nat_tests, is)
 
-within_range : (b : Bool) (why : Option Refused) → cond b why (Some Range) ≡ None → why ≡ None
+pub within_range : (b : Bool) (why : Option Refused) → cond b why (Some Range) ≡ None → why ≡ None
 within_range true why none = none
 within_range false why none = absurd (cc (none))
 

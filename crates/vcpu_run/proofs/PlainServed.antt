@@ -369,7 +369,7 @@ served_counts current (units.Cmd command) (outcomes.Granted number) old new is s
 served_counts current (units.Cmd command) outcomes.Rejected old new is suits settles = absurd suits
 served_counts current iu outcome old new isnt suits settles = absurd (cc (isnt))
 
-at_least : (n : ℕ) → 1 ≤ n → nat_le 1 n ≡ true
+pub at_least : (n : ℕ) → 1 ≤ n → nat_le 1 n ≡ true
 at_least n less = grind (arith, nat_tests, less)
 
 is_none : (n : ℕ) → n ≡ 0 → nat_le 1 n ≡ false

@@ -84,7 +84,7 @@ entry_srp n low few =
     let format : entry_format (srp_entry n low) ≡ 0x01 = omega (arith, few) in
     ap₂ (λ (f g : ℕ). f == 0x80 && g == 0x01) first format
 
-entry_address : (n low : ℕ) → low < 256 ^ 8 → iu_address (srp_entry n low) ≡ low
+pub entry_address : (n low : ℕ) → low < 256 ^ 8 → iu_address (srp_entry n low) ≡ low
 entry_address n low few = big_number-reads_back 8 low [] few
 
 -- the unit that was written into its slot is what the entry asks

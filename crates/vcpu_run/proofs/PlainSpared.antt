@@ -8,6 +8,7 @@ use Rattle.boot_text.specs.declared.verb.Verb.TheVariants as verbs
 use Rattle.vio_trace.specs.declared.outcome.Outcome.{Outcome}
 use Rattle.vio_trace.specs.declared.rows.LogRow.{LogRow}
 use Rattle.vcpu_run.specs.Credited.{Ended, ended_by}
+use Rattle.vcpu_run.specs.OwnPairs.{SparesLines}
 use Rattle.vcpu_run.specs.PlainClients.{IsPlainClient, keeps_own, lie_behind, lines_of, tables_in, tables_of, written_by}
 use Rattle.vcpu_run.specs.PlainScripts.{after_ended}
 use Rattle.vcpu_run.specs.PlainSteps.{IsPlainVerb, SparesTables}
@@ -62,7 +63,7 @@ filtered u P (l ∷ lines) (suc n) line all found own = filtered u P lines n lin
     rest false some = some
 
 -- a line of the unit has its table among those of all
-table_in : (written : List Range) (lines : List Line) → any_share written (tables_in lines) ≡ false → All (λ (line : Line). any_share written (tables_of line.verb) ≡ false) lines
+pub table_in : (written : List Range) (lines : List Line) → any_share written (tables_in lines) ≡ false → All (λ (line : Line). any_share written (tables_of line.verb) ≡ false) lines
 table_in written [] e = All-nil (λ (line : Line). any_share written (tables_of line.verb) ≡ false)
 table_in written (line ∷ lines) e =
     let parts = share_parts written (tables_of line.verb) (tables_in lines) e in
@@ -71,7 +72,7 @@ table_in written (line ∷ lines) e =
 -- ---- the replay
 
 -- No byte that is written lies on a page of a table of what is outstanding.
-Spared : List Range → Replay → Type 0
+unfoldable pub Spared : List Range → Replay → Type 0
 Spared written now = All (λ (asked : Asked). any_share written (drop 1 asked.ranges) ≡ false) now.outstanding
 
 spared_asked : (written : List Range) (now : Replay) (ranges : List Range) → any_share written (drop 1 ranges) ≡ false → Spared written now → Spared written (with_asked ranges now)
@@ -90,7 +91,7 @@ spared_drop written (suc count) [] spared = spared
 spared_drop written (suc count) (asked ∷ outstanding) spared =
     spared_drop written count outstanding (All-tail (λ (asked : Asked). any_share written (drop 1 asked.ranges) ≡ false) asked outstanding spared)
 
-spared_line : (granted pages : ℕ) (written : List Range) (now : Replay) (verb : Verb) → any_share written (tables_of verb) ≡ false → Spared written now
+pub spared_line : (granted pages : ℕ) (written : List Range) (now : Replay) (verb : Verb) → any_share written (tables_of verb) ≡ false → Spared written now
     → Spared written (after_line granted pages now verb)
 unfolding Spared
 spared_line granted pages written now verbs.Login none spared = spared
@@ -146,6 +147,18 @@ spared_ended granted pages u written now (line ∷ lines) (row ∷ logs) all spa
         go (after_line granted pages now line.verb) (All-tail (λ (line : Line). any_share written (tables_of line.verb) ≡ false) line (lines_of u lines) some)
         (spared_line granted pages written now line.verb (All-head (λ (line : Line). any_share written (tables_of line.verb) ≡ false) line (lines_of u lines) some) spared)
     at go false some = go now some spared
+
+-- what spares the tables of the unit's lines spares those of what is outstanding behind lines of the unit
+pub ended_spared : (granted pages u : ℕ) (lines : List Line) (logs : List LogRow) → SparesLines u lines (after_ended granted pages before_lines (ended_by u lines logs))
+unfolding Spared
+ended_spared granted pages u lines logs written all =
+    spared_ended granted pages u written before_lines lines logs all (All-nil (λ (asked : Asked). any_share written (drop 1 asked.ranges) ≡ false))
+
+pub line_spares : (granted pages u n : ℕ) (lines : List Line) (line : Line) (now : Replay) → slice_get lines n ≡ Some line → (line.unit == u) ≡ true → SparesLines u lines now
+    → SparesLines u lines (after_line granted pages now line.verb)
+unfolding Spared
+line_spares granted pages u n lines line now found own spares written all =
+    spared_line granted pages written now line.verb (filtered u (λ l. any_share written (tables_of l.verb) ≡ false) lines n line all found own) (spares written all)
 
 -- ---- a line of a plain client
 

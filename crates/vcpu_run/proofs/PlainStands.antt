@@ -63,14 +63,14 @@ own_page window own right piece granted = granted.page ∙ (own.values piece.ent
 -- ---- reads
 
 -- the one piece of a range that one entry has
-record IsOne (start count : ℕ) (pieces : List Piece) : Type 0 where
-  piece : Piece
-  one : pieces ≡ piece ∷ []
-  entry : piece.entry ≡ start / 4096
-  offset : piece.offset ≡ start % 4096
-  long : piece.len ≡ count
+pub record IsOne (start count : ℕ) (pieces : List Piece) : Type 0 where
+  pub piece : Piece
+  pub one : pieces ≡ piece ∷ []
+  pub entry : piece.entry ≡ start / 4096
+  pub offset : piece.offset ≡ start % 4096
+  pub long : piece.len ≡ count
 
-one_of : (unit : UnitId) (start count to : ℕ) (pieces : List Piece) → to ≡ start + count → 1 ≤ count → start % 4096 + count ≤ 4096 → Touches unit start to pieces
+pub one_of : (unit : UnitId) (start count to : ℕ) (pieces : List Piece) → to ≡ start + count → 1 ≤ count → start % 4096 + count ≤ 4096 → Touches unit start to pieces
     → IsOne start count pieces
 one_of unit start count to [] is some fits touched = absurd (omega (arith, is, touched, some))
 one_of unit start count to (piece ∷ []) is some fits touched = record {

@@ -21,7 +21,7 @@ one_same a b is = grind (arith, nat_tests, is)
 pub same_one : (a b : UnitId) → same_unit a b ≡ true → a ≡ b
 same_one a b is = grind (arith, nat_tests)
 
-map_push : (rows : List Served) (row : Served) → map row_tag (rows ++ row ∷ []) ≡ map row_tag rows ++ row_tag row ∷ []
+pub map_push : (rows : List Served) (row : Served) → map row_tag (rows ++ row ∷ []) ≡ map row_tag rows ++ row_tag row ∷ []
 map_push [] row = refl
 map_push (first ∷ rows) row = ap (λ tags. row_tag first ∷ tags) (map_push rows row)
 

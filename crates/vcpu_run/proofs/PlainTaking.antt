@@ -46,7 +46,7 @@ drop_get (y ∷ xs) zero x is = ap (λ (e : Entry). e ∷ xs) (some_one is)
 drop_get (y ∷ xs) (suc n) x is = drop_get xs n x is
 
 -- one more was taken
-taken_more : (session : ℕ) (rows : List PipeRow) (entry : Entry) → length (of_session session (rows ++ record { session = session; entry = entry } ∷ [])) ≡ length (of_session session rows) + 1
+pub taken_more : (session : ℕ) (rows : List PipeRow) (entry : Entry) → length (of_session session (rows ++ record { session = session; entry = entry } ∷ [])) ≡ length (of_session session rows) + 1
 taken_more session rows entry =
     ap (λ (list : List Entry). length list) (of_session-append session rows (record { session = session; entry = entry } ∷ []))
     ∙ length-append (of_session session rows) (of_session session (record { session = session; entry = entry } ∷ []))

@@ -1,9 +1,8 @@
 -- What a gathered trace says of plain clients: each did exactly what its script says.
-use Rattle.std.proofs.Common.{◌≡◌, ◌≢◌, ◌∙◌, inl, inr, ℕ, ◌≤◌, ◌==◌, Bool, true, All, List, [], ◌∷◌, IsSomeAnd, drop, filter, get_or, length, map, slice_get, refl, sym, ap, subst, arith, false, Contains, IfSome, Option, Some, None}
+use Rattle.std.proofs.Common.{◌≡◌, ◌≢◌, ◌∙◌, inl, inr, ℕ, ◌≤◌, Bool, true, All, List, [], ◌∷◌, IsSomeAnd, drop, filter, get_or, length, map, slice_get, refl, sym, ap, subst, arith, false, Contains, Some}
 use Rattle.std.proofs.lemmas.List.{drop_all, get_or-map, length-map}
 use Rattle.std.proofs.lemmas.List.Elements.{All-nil}
-use Rattle.std.specs.List.{AllPairs, flat_map}
-use Rattle.std.specs.Option.{option_map}
+use Rattle.std.specs.List.{AllPairs}
 use Rattle.vio_num.specs.declared.entry.Entry.{Entry}
 use Rattle.vio_num.specs.declared.history.Grant.{Grant}
 use Rattle.vio_num.specs.declared.history.Served.{Served}
@@ -22,17 +21,14 @@ use Rattle.block_server.specs.RowsOn.{row_tag}
 use Rattle.block_server.specs.Talk.{HearsAll, Word, talk_of, to_come}
 use Rattle.block_server.specs.Written.{IsAnswerWritten}
 use Rattle.block_server.specs.declared.unit.Unit.{Unit}
-use Rattle.boot_text.specs.Sound.{IsServer}
-use Rattle.boot_text.specs.declared.plan.Line.{Line}
 use Rattle.boot_text.specs.declared.plan.Partition.{Partition}
 use Rattle.boot_text.specs.declared.plan.UnitPlan.TheVariants as units
 use Rattle.lan_script.specs.Units.{LanValue}
 use Rattle.lan_script.specs.declared.rows.LanRows.{LanRows}
-use Rattle.vio_trace.specs.declared.rows.LogRow.{LogRow}
 use Rattle.vcpu_run.specs.Answered.{AreBegun}
 use Rattle.vcpu_run.specs.AnswersTaken.{answers_to}
-use Rattle.vcpu_run.specs.Credited.{Ended, ended_by}
-use Rattle.vcpu_run.specs.Gathered.{HasLawfulQueue, HasLawfulWindow, IsLawfulWindow, logs_of, queue_at, trace_of, window_at}
+use Rattle.vcpu_run.specs.Credited.{Ended}
+use Rattle.vcpu_run.specs.Gathered.{HasLawfulQueue, HasLawfulWindow, trace_of}
 use Rattle.vcpu_run.specs.LinesShow.{seen_at}
 use Rattle.vcpu_run.specs.Links.{IsEmptied, link_state}
 use Rattle.vcpu_run.specs.Machines.{AreScripts, IsOfPlan, server_id}
@@ -46,32 +42,26 @@ use Rattle.vcpu_run.specs.PlainScripts.{StandsPlainly, told_in}
 use Rattle.vcpu_run.specs.Ports.{unit_of}
 use Rattle.vcpu_run.specs.Received.{AreAtRest}
 use Rattle.vcpu_run.specs.Replay.{IsReplayed, before_lines}
-use Rattle.vcpu_run.specs.Scripts.{are_servers}
 use Rattle.vcpu_run.specs.ScriptTold.{AreTold, own_of}
-use Rattle.vcpu_run.specs.Settled.{script_of}
 use Rattle.vcpu_run.specs.Shown.{pages_at}
 use Rattle.vcpu_run.specs.TakenScripts.{IsTaken, PairTaken}
-use Rattle.vcpu_run.specs.Units.{seats_of, unit_seat}
+use Rattle.vcpu_run.specs.Units.{seats_of}
 use Rattle.vcpu_run.specs.declared.driver.Driver.{Driver}
 use Rattle.vcpu_run.specs.declared.pair.Pair.{Pair}
 use Rattle.vcpu_run.specs.declared.script.Script.{Script}
 use Rattle.vcpu_run.specs.declared.unit_seat.Seat.TheVariants as sits
-use Rattle.vcpu_run.specs.declared.unit_seat.UnitSeat.{UnitSeat}
 use Rattle.vcpu_run.proofs.AnswersFound.{client_answers, client_entries}
 use Rattle.vcpu_run.proofs.Driving.{some_is}
-use Rattle.vcpu_run.proofs.Following.{each_from_all}
+use Rattle.vcpu_run.proofs.EndPairs.{home_named, pair_laws, script_found, script_tells, taken_at}
 use Rattle.vcpu_run.proofs.Listed.{held}
-use Rattle.vcpu_run.proofs.Parts.{IsIn, each_in}
 use Rattle.vcpu_run.proofs.PlainAnswerRows.{answer_rows}
 use Rattle.vcpu_run.proofs.PlainDataBorne.{bear_all}
 use Rattle.vcpu_run.proofs.PlainDataTold.{data_of_rows}
 use Rattle.vcpu_run.proofs.PlainFitting.{entries_fit}
 use Rattle.vcpu_run.proofs.PlainSums.{BearAll}
-use Rattle.vcpu_run.proofs.RecordLaws.{lines_in}
 use Rattle.vcpu_run.proofs.RowCopies.{written_each}
-use Rattle.vcpu_run.proofs.RefusalsTold.{client_pages, own_records, trace_sees}
-use Rattle.vcpu_run.proofs.Seated.{planned_in}
-use Rattle.vcpu_run.proofs.Settling.{emptied, script_at, servers_home}
+use Rattle.vcpu_run.proofs.RefusalsTold.{client_pages, trace_sees}
+use Rattle.vcpu_run.proofs.Settling.{emptied}
 use Rattle.vcpu_run.proofs.PlainTellings.{lines_move}
 use Rattle.vcpu_run.specs.PlainRejected.{TellsOf}
 use Rattle.tce_window.specs.PlainPort.{known_of}
@@ -175,10 +165,6 @@ answers_ready granted told home k books pair empty (inr new) = record {
   noted = new.noted;
 }
 
-taken_at : (own : List Ended) (pair : Pair) (o : Option Driver) (driver : Driver) → o ≡ Some driver → IfSome o (IsTaken own pair) → IsTaken own pair driver
-taken_at own pair None driver is taken = absurd (cc (is))
-taken_at own pair (Some other) driver is taken = subst (IsTaken own pair) (some_is other driver is) taken
-
 data_told : (unit : UnitId) (rows : List Served) (own : List Ended) (pair : Pair) (granted pages size : ℕ) (told : Told → Bool) → pair.server ≡ unit → AllWithin (strokes_at pair.window.pages)
     → IsLawfulPipe (side_of pair.link false).queue → HasAnswersFor unit rows pair → All (IsAnswerWritten size told) rows → PairTaken own pair → IsReplayed granted pages before_lines own
     → (e : Ended) → Contains own e → IsDataOfRow rows unit e
@@ -186,14 +172,15 @@ data_told unit rows own pair granted pages size told same within laws has writte
     let is : IsTaken own pair has.driver = taken_at own pair pair.driver has.driver has.driver_is taken in
     data_of_rows (seen_at pair) pair.server has.driver.client has.driver.answers.items (side_of pair.link false).queue own rows unit pair.window.unit (known_of pair.window).strokes granted pages
     (record { laws = laws; order = is.given.order; kept = is.kept; reads = is.reads }) has.put
-    (record { apart = has.apart; answered = has.answered; sized = has.sized; noted = has.noted; told = told; size = size; written = written }) replayed
-    (λ tag len range row inward behind there tag_is. subst (λ (id : UnitId). BearAll (seen_at pair) (record { who = id; mark = tag }) range row.inn) (sym same)
-    (bear_all pair unit (rows_by unit rows) has.driver.client.rows tag len range row (record { within = within; apart = has.apart; borne = has.borne }) there tag_is inward behind))
+    has.apart
+    (record { answered = has.answered; sized = has.sized; noted = has.noted; told = told; size = size; written = written }) replayed
+    (λ tag len range row inward behind alone. subst (λ (id : UnitId). BearAll (seen_at pair) (record { who = id; mark = tag }) range row.inn) (sym same)
+    (bear_all pair unit (rows_by unit rows) has.driver.client.rows tag len range row (record { within = within; borne = has.borne }) alone inward behind))
 
 -- ---- what the answers of the rows say
 
 -- Each that has one is in form, whatever the units were told.
-rows_written : (copies : List CopyRecord) (grants : List Grant) (history : List Served) (pairs : List Pair) (scripts : List Script) → (rests : AreAtRest copies grants history pairs scripts)
+pub rows_written : (copies : List CopyRecord) (grants : List Grant) (history : List Served) (pairs : List Pair) (scripts : List Script) → (rests : AreAtRest copies grants history pairs scripts)
     → All (IsAnswerWritten rests.size anything) history
 rows_written copies grants history pairs scripts rests =
     subst (All (IsAnswerWritten rests.size anything)) rests.rows_are
@@ -214,82 +201,50 @@ pub scripted_are : (pairs : List Pair) (scripts : List Script) (lan : LanValue) 
     → PlainClientsAreScripted granted partitions (trace_of pairs scripts lan lan_rows history grants copies)
 scripted_are pairs scripts lan lan_rows history grants copies partitions one_home are lawful windows of_plan told rests granted home list plain client server is plainly =
     let p = client.partition in
-    let at = script_at partitions pairs scripts lan.seats client (units.Client server is.0 is.1) of_plan is.2 in
-    let script = at.0 in
-    let own = are p script at.1 in
-    let serves : IsServer partitions server = of_plan.sound.served client server is in
-    let lines : script_of partitions p ≡ script.lines.now = lines_in (slice_get partitions p) script (of_plan.scripts_are.each p script at.1) in
-    let plain_lines : IsPlainClient client.unit script.lines.now = subst (IsPlainClient client.unit) lines plainly in
-    let stands = plain p client.unit server.unit script at.1 (record { sits = at.2; plain = plain_lines }) in
-    let has : Pair → Type 0 = λ pair. IsSomeAnd pair.driver (λ driver. driver.unit ≡ unit_of script.partition client.unit) in
-    let pair = held has (slice_get pairs server.unit) (own.script_is.seats client.unit server.unit at.2) in
-    let size : pages_at partitions (unit_of script.partition client.unit) ≡ length pair.0.window.pages =
-    client_pages partitions server.unit (unit_of script.partition client.unit) pair.0 (of_plan.pairs_are.each server.unit pair.0 pair.1) pair.2 in
-    let pages : pages_at partitions client ≡ length pair.0.window.pages = ap (λ n. pages_at partitions (unit_of n client.unit)) (sym own.number) ∙ size in
-    let stood = held (StandsPlainly granted client.unit script) (slice_get pairs server.unit) stands.stands in
-    let replayed : IsReplayed granted (length pair.0.window.pages) before_lines (ended_by client.unit script.lines.now script.logs.items) =
-    subst (λ (x : Pair). IsReplayed granted (length x.window.pages) before_lines (ended_by client.unit script.lines.now script.logs.items)) (some_is stood.0 pair.0 (sym stood.1 ∙ pair.1)) stood.2.replayed in
-    let home_at = held (λ (s : Script). are_servers s.seats.items ≡ true) (slice_get scripts home) stands.behind.servers in
-    let home_is : home ≡ server.partition = servers_home partitions pairs scripts lan.seats server home home_at.0 of_plan serves home_at.1 home_at.2 in
-    let name : server_id home server.unit ≡ server = ap (λ n. unit_of n server.unit) home_is in
-    let ready = held (IsReadyPair granted (told_in client.unit script) home (books_of list grants history) server.unit) (slice_get pairs server.unit) stands.ready in
-    let there = held (λ (pair : Pair). pair.server ≡ server) (slice_get pairs server.unit) (of_plan.pairs_are.servers server serves) in
-    let same : ready.0.server ≡ server = ap (λ (x : Pair). x.server) (some_is ready.0 there.0 (sym ready.1 ∙ there.1)) ∙ there.2 in
-    let empty = emptied rests.units pairs scripts lan.seats partitions server ready.0 are lawful of_plan rests.idle serves ready.1 same in
-    let books : HasBooks (told_in client.unit script) server grants history =
-    subst (λ (unit : UnitId). HasBooks (told_in client.unit script) unit grants history) name
-    (books_ready granted (told_in client.unit script) home server.unit (books_of list grants history) ready.0 empty.0 ready.2) in
-    let seat : UnitSeat = unit_seat client.partition client.unit (sits.Client server.unit) in
-    let inside : IsIn seat (seats_of scripts) = planned_in partitions pairs scripts lan.seats client (units.Client server is.0 is.1) are of_plan is.2 in
-    let queue : queue_at pairs seat ≡ Some (side_of ready.0.link false).queue = ap (option_map (λ (pair : Pair). (side_of pair.link false).queue)) ready.1 in
-    let laws : IsLawfulPipe (side_of ready.0.link false).queue =
-    subst (λ slot. IfSome slot IsLawfulPipe) queue (each_in (HasLawfulQueue pairs) seat (seats_of scripts) inside (each_from_all (HasLawfulQueue pairs) (seats_of scripts) lawful)) in
-    let window : window_at pairs lan seat ≡ Some ready.0.window = ap (option_map (λ (pair : Pair). pair.window)) ready.1 in
-    let law : IsLawfulWindow ready.0.window =
-    subst (λ slot. IfSome slot IsLawfulWindow) window (each_in (HasLawfulWindow pairs lan) seat (seats_of scripts) inside (each_from_all (HasLawfulWindow pairs lan) (seats_of scripts) windows)).lawful in
-    let taken : PairTaken (own_of client.unit script) ready.0 =
-    (told p script at.1 (record { others = stands.others; no_call = plain_lines.no_call })).taken.kept client.unit server.unit ready.0 at.2 ready.1 in
+    let u = client.unit in
+    let k = server.unit in
+    let at = script_found partitions pairs scripts lan client server of_plan is in
+    let script = at.script in
+    let own = are p script at.there in
+    let plain_lines : IsPlainClient u script.lines.now = subst (IsPlainClient u) at.lines plainly in
+    let stands = plain p u k script at.there (record { sits = at.sits; plain = plain_lines }) in
+    let has : Pair → Type 0 = λ pair. IsSomeAnd pair.driver (λ driver. driver.unit ≡ unit_of script.partition u) in
+    let pair = held has (slice_get pairs k) (own.script_is.seats u k at.sits) in
+    let size : pages_at partitions (unit_of script.partition u) ≡ length pair.0.window.pages = client_pages partitions k (unit_of script.partition u) pair.0 (of_plan.pairs_are.each k pair.0 pair.1) pair.2 in
+    let pages : pages_at partitions client ≡ length pair.0.window.pages = ap (λ n. pages_at partitions (unit_of n u)) (sym own.number) ∙ size in
+    let stood = held (StandsPlainly granted u script) (slice_get pairs k) stands.stands in
+    let replayed : IsReplayed granted (length pair.0.window.pages) before_lines (own_of u script) =
+    subst (λ (x : Pair). IsReplayed granted (length x.window.pages) before_lines (own_of u script)) (some_is stood.0 pair.0 (sym stood.1 ∙ pair.1)) stood.2.replayed in
+    let name : server_id home k ≡ server = home_named partitions pairs scripts lan client server home p of_plan is stands.behind in
+    let ready = held (IsReadyPair granted (told_in u script) home (books_of list grants history) k) (slice_get pairs k) stands.ready in
+    let laws = pair_laws partitions pairs scripts lan client server ready.0 are lawful windows of_plan is ready.1 in
+    let empty = emptied rests.units pairs scripts lan.seats partitions server ready.0 are lawful of_plan rests.idle (of_plan.sound.served client server is) ready.1 laws.same in
+    let books : HasBooks (told_in u script) server grants history =
+    subst (λ (unit : UnitId). HasBooks (told_in u script) unit grants history) name (books_ready granted (told_in u script) home k (books_of list grants history) ready.0 empty.0 ready.2) in
+    let taken : PairTaken (own_of u script) ready.0 = (told p script at.there (record { others = stands.others; no_call = plain_lines.no_call })).taken.kept u k ready.0 at.sits ready.1 in
     let answers : HasAnswersFor server history ready.0 =
-    subst (λ (unit : UnitId). HasAnswersFor unit history ready.0) name (answers_ready granted (told_in client.unit script) home server.unit (books_of list grants history) ready.0 empty.0 ready.2) in
+    subst (λ (unit : UnitId). HasAnswersFor unit history ready.0) name (answers_ready granted (told_in u script) home k (books_of list grants history) ready.0 empty.0 ready.2) in
     let trace = trace_of pairs scripts lan lan_rows history grants copies in
     let noted : All (HasAnswerRow history server) (answers_to trace client) =
     subst (All (HasAnswerRow history server))
     (sym (client_answers partitions pairs scripts lan lan_rows history grants copies client server ready.0 answers.driver are of_plan is ready.1 answers.driver_is))
     (answer_rows server ready.0.window.unit client history (known_of ready.0.window).strokes answers.driver.answers.items answers.answered answers.noted) in
-    let begun : AreBegun (side_of ready.0.link false).queue.taken =
-    (taken_at (own_of client.unit script) ready.0 ready.0.driver answers.driver answers.driver_is taken).given.begun in
+    let begun : AreBegun (side_of ready.0.link false).queue.taken = (taken_at (own_of u script) ready.0 ready.0.driver answers.driver answers.driver_is taken).given.begun in
     let sees = trace_sees partitions pairs scripts lan lan_rows history grants copies client server ready.0 one_home are lawful windows of_plan is ready.1 in
-    let laid : All (TellsOf server (strokes_of trace client)) (ended_by client.unit script.lines.now script.logs.items) =
-    lines_move (server_id home server.unit) server (known_of ready.0.window).strokes (strokes_of trace client) (sym name) sees.strokes (told_in client.unit script)
-    (laid_ready granted (told_in client.unit script) home server.unit (books_of list grants history) ready.0 ready.2) in
     record {
-      rejected = subst (λ (ls : List Line). All (TellsOf server (strokes_of trace client)) (ended_by client.unit ls (filter (λ (row : LogRow). row.partition == p) (flat_map logs_of scripts)))) (sym lines)
-          (subst (λ (rows : List LogRow). All (TellsOf server (strokes_of trace client)) (ended_by client.unit script.lines.now rows)) (sym (own_records pairs scripts lan p script are at.1)) laid);
-      records = subst (λ n. IsReplayed granted n before_lines (ended_by client.unit (script_of partitions p) (filter (λ (row : LogRow). row.partition == p) (flat_map logs_of scripts)))) (sym pages)
-          (subst (λ (ls : List Line). IsReplayed granted (length pair.0.window.pages) before_lines (ended_by client.unit ls (filter (λ (row : LogRow). row.partition == p) (flat_map logs_of scripts)))) (sym lines)
-          (subst (λ (rows : List LogRow). IsReplayed granted (length pair.0.window.pages) before_lines (ended_by client.unit script.lines.now rows)) (sym (own_records pairs scripts lan p script are at.1)) replayed));
-      granted = subst (λ (ls : List Line). granted_in (ended_by client.unit ls (filter (λ (row : LogRow). row.partition == p) (flat_map logs_of scripts))) ≤ grants_of server grants) (sym lines)
-          (subst (λ (rows : List LogRow). granted_in (ended_by client.unit script.lines.now rows) ≤ grants_of server grants) (sym (own_records pairs scripts lan p script are at.1))
-          books.granted);
+      rejected = script_tells (All (TellsOf server (strokes_of trace client))) partitions pairs scripts lan p u script are at.there at.lines
+          (lines_move (server_id home k) server (known_of ready.0.window).strokes (strokes_of trace client) (sym name) sees.strokes (told_in u script)
+          (laid_ready granted (told_in u script) home k (books_of list grants history) ready.0 ready.2));
+      records = script_tells (IsReplayed granted (pages_at partitions client) before_lines) partitions pairs scripts lan p u script are at.there at.lines
+          (subst (λ n. IsReplayed granted n before_lines (own_of u script)) (sym pages) replayed);
+      granted = script_tells (λ (ended : List Ended). granted_in ended ≤ grants_of server grants) partitions pairs scripts lan p u script are at.there at.lines books.granted;
       logins = books.ends;
       tags = books.tags;
-      reads = subst (λ (ls : List Line). (e : Ended) → Contains (ended_by client.unit ls (filter (λ (row : LogRow). row.partition == p) (flat_map logs_of scripts))) e → IsDataOfRow history server e) (sym lines)
-          (subst (λ (rows : List LogRow). (e : Ended) → Contains (ended_by client.unit script.lines.now rows) e → IsDataOfRow history server e) (sym (own_records pairs scripts lan p script are at.1))
-          (data_told server history (own_of client.unit script) ready.0 granted (length pair.0.window.pages) rests.size anything same law.within laws answers
-          (rows_written copies grants history pairs scripts rests) taken replayed));
+      reads = script_tells (λ (ended : List Ended). (e : Ended) → Contains ended e → IsDataOfRow history server e) partitions pairs scripts lan p u script are at.there at.lines
+          (data_told server history (own_of u script) ready.0 granted (length pair.0.window.pages) rests.size anything laws.same laws.window.within laws.queue answers
+          (rows_written copies grants history pairs scripts rests) taken replayed);
       answers = noted;
       entries = subst (All (λ (row : PipeRow). FitsAnswers (answers_to trace client) row.entry))
-          (sym (client_entries partitions pairs scripts lan lan_rows history grants copies client server ready.0 are of_plan is ready.1 laws begun))
-          (entries_fit server history (answers_to trace client) rests.size anything (side_of ready.0.link false).queue laws noted (rows_written copies grants history pairs scripts rests) answers.entries);
+          (sym (client_entries partitions pairs scripts lan lan_rows history grants copies client server ready.0 are of_plan is ready.1 laws.queue begun))
+          (entries_fit server history (answers_to trace client) rests.size anything (side_of ready.0.link false).queue laws.queue noted (rows_written copies grants history pairs scripts rests) answers.entries);
     }
-
--- ---- the same books, pairs and scripts
-
-pub plain_same : (granted home : ℕ) (list : List Unit) (lines lines' : List Grant) (rows rows' : List Served) (pairs pairs' : List Pair) (scripts scripts' : List Script)
-    → lines' ≡ lines → rows' ≡ rows → pairs' ≡ pairs → scripts' ≡ scripts → ArePlain granted home (books_of list lines rows) pairs scripts
-    → ArePlain granted home (books_of list lines' rows') pairs' scripts'
-plain_same granted home list lines lines' rows rows' pairs pairs' scripts scripts' same_lines same_rows same_pairs same_scripts plain =
-    subst (λ (l : List Grant). ArePlain granted home (books_of list l rows') pairs' scripts') (sym same_lines)
-    (subst (λ (l : List Served). ArePlain granted home (books_of list lines l) pairs' scripts') (sym same_rows)
-    (subst (λ (l : List Pair). ArePlain granted home (books_of list lines rows) l scripts') (sym same_pairs)
-    (subst (λ (l : List Script). ArePlain granted home (books_of list lines rows) pairs l) (sym same_scripts) plain)))

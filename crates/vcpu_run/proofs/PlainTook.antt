@@ -87,7 +87,7 @@ took_none granted at at' asked answers number calm talk takes only stays = recor
     }
 
 -- the first of a list of requests is the one of its tag
-without_first : (tag : ℕ) (oldest : Outgoing) (others : List Outgoing) → oldest.tag ≡ tag → without_tag tag (oldest ∷ others) ≡ others
+pub without_first : (tag : ℕ) (oldest : Outgoing) (others : List Outgoing) → oldest.tag ≡ tag → without_tag tag (oldest ∷ others) ≡ others
 without_first tag oldest others is = ap (λ b. cond b others (oldest ∷ without_tag tag others)) (eq-eqb oldest.tag tag is)
 
 heads : (a b : Entry) (xs ys : List Entry) → a ∷ xs ≡ b ∷ ys → a ≡ b

@@ -91,7 +91,7 @@ begun_lent names owns at words begun = record {
 agree_lent : (names owns : List GName) (granted : ℕ) (at : Between) (asked : AskedParts) (answers : List Iu) → AgreeOnLogin granted at asked answers → AgreeOnLogin granted (lent_at names owns at) asked answers
 agree_lent names owns granted at asked answers login = record { credits = login.credits; before = login.before; on = login.on; answer = login.answer; grant = login.grant }
 
-talk_lent : (names owns : List GName) (granted : ℕ) (at : Between) (words : List Word) (asked : AskedParts) (answers : List Iu) → IsTalking granted at words asked answers
+pub talk_lent : (names owns : List GName) (granted : ℕ) (at : Between) (words : List Word) (asked : AskedParts) (answers : List Iu) → IsTalking granted at words asked answers
     → IsTalking granted (lent_at names owns at) words asked answers
 talk_lent names owns granted at words asked answers talk = record {
   registered = talk.registered;

@@ -1,11 +1,9 @@
 -- A turn of a script, its first and its last lines, and a line that waited and was ended: as plain clients see them.
-use Rattle.std.proofs.Common.{◌≡◌, ◌≢◌, ◌∙◌, ◌⊎◌, inl, inr, ℕ, ◌+◌, ◌≤◌, ◌==◌, ◌++◌, ◌&&◌, All, not, Bool, true, false, true≢false, List, [], ◌∷◌, Option, Some, None, IfSome, IsSomeAnd, is_some, length, refl, slice_get, sym, ap, subst, arith, eqb-true}
+use Rattle.std.proofs.Common.{◌≡◌, ◌≢◌, ◌∙◌, ◌⊎◌, inl, inr, ℕ, ◌+◌, ◌==◌, ◌++◌, ◌&&◌, All, not, Bool, true, false, true≢false, List, [], ◌∷◌, Option, Some, None, IfSome, IsSomeAnd, is_some, length, refl, slice_get, sym, ap, subst, arith, eqb-true}
 use Rattle.boot_text.specs.declared.plan.Line.{Line}
-use Rattle.boot_text.specs.declared.verb.Verb.{Verb}
 use Rattle.vio_num.specs.Entry.{is_srp_entry}
 use Rattle.vio_num.specs.declared.entry.Entry.{Entry}
 use Rattle.vio_num.specs.declared.names.UnitId.{UnitId}
-use Rattle.vio_trace.specs.declared.outcome.Outcome.{Outcome}
 use Rattle.vio_trace.specs.declared.rows.LogRow.{LogRow}
 use Rattle.crq_session.specs.PlainState.{side_of}
 use Rattle.crq_session.specs.declared.handshake.Handshake.TheVariants.{Down, Waiting}
@@ -14,7 +12,7 @@ use Rattle.vscsi_client.specs.State.{ClientState, new_client}
 use Rattle.vcpu_run.specs.Credited.{Ended, ended_by}
 use Rattle.vcpu_run.specs.Pairs.{AreDriven}
 use Rattle.vcpu_run.specs.PlainClients.{granted_in}
-use Rattle.vcpu_run.specs.PlainScripts.{AllRestPlainly, AllTalkOn, EndsPlainly, IsPlainSeat, OfUnit, PairAsks, PairIs, PairKeepsRights, PairNotes, PairTalks, QuietsPlainly, StandsAt, StandsPlainly, StandsPlainlyAt, TurnedPlainly, TurnsPlainly, after_ended, answers_in, awaits, owes_at, owes_to, rows_in, told_in}
+use Rattle.vcpu_run.specs.PlainScripts.{AllRestPlainly, AllTalkOn, EndsPlainly, IsPlainSeat, OfUnit, PairAsks, PairIs, PairKeepsRights, PairNotes, PairTalks, QuietsPlainly, StandsAt, StandsPlainly, StandsPlainlyAt, TurnsPlainly, after_ended, answers_in, awaits, owes_at, owes_to, rows_in, told_in}
 use Rattle.vcpu_run.specs.PlainPairs.{between_of}
 use Rattle.vcpu_run.specs.PlainSteps.{AreReplayedAs, FollowsReplay, HasCome, RestsAs, WasFailed}
 use Rattle.vcpu_run.specs.PlainTalk.{Between, TalksPlainly}
@@ -47,7 +45,7 @@ use Rattle.tce_window.specs.PortState.{PortPlace}
 -- ---- behind the last line
 
 -- a client between two lines is owed nothing, nor is one whose partition failed
-rests_owe : (granted : ℕ) (unit : Unit) (now : Replay) (pair : Pair) → PairTalks granted unit [] pair → PairIs (RestsAs granted now) pair → owes_at unit [] pair ≡ 0
+pub rests_owe : (granted : ℕ) (unit : Unit) (now : Replay) (pair : Pair) → PairTalks granted unit [] pair → PairIs (RestsAs granted now) pair → owes_at unit [] pair ≡ 0
 rests_owe granted unit now pair talks follows = by pair.driver talks follows
   where
     at : (driver : Driver) → TalksPlainly granted (between_of unit driver pair) [] → RestsAs granted now (between_of unit driver pair) → owes_to unit [] (Some driver) pair ≡ 0
@@ -93,7 +91,7 @@ rests_quietly old new script over granted u k unit seat talks stood idle =
 
 -- ---- the client is as it was
 
-rests_either : (granted : ℕ) (later : Replay) (before after : Pair) → after.driver ≡ before.driver → (side_of after.link false).registered ≡ (side_of before.link false).registered
+pub rests_either : (granted : ℕ) (later : Replay) (before after : Pair) → after.driver ≡ before.driver → (side_of after.link false).registered ≡ (side_of before.link false).registered
     → (PairIs WasFailed before → PairIs WasFailed after) → PairIs (RestsAs granted later) before → PairIs (RestsAs granted later) after
 rests_either granted later before after driver queue failed is =
     subst (λ (o : Option Driver). IsSomeAnd o (λ d. (unit : Unit) → RestsAs granted later (between_of unit d after))) (sym driver) (by before.driver refl is)
@@ -128,29 +126,26 @@ failed_still before after driver queue place strokes is =
     by None h = absurd h
     by (Some d) h = λ unit. was_still (between_of unit d before) (between_of unit d after) refl queue place strokes (h unit)
 
+-- how far a line came goes by the client, and by whether its queue is registered
+pub stands_moved : (granted u : ℕ) (o : Option Line) (p : Progress) (now : Replay) (before after : Pair) → (PairIs WasFailed before → PairIs WasFailed after) → after.driver ≡ before.driver
+    → (side_of after.link false).registered ≡ (side_of before.link false).registered → StandsAt granted u o p now before → StandsAt granted u o p now after
+stands_moved granted u None p now before after failed driver queue is = (is.0, rests_either granted is.0 before after driver queue failed is.1)
+stands_moved granted u (Some line) p now before after failed driver queue (inr is) = inr (is.0, failed is.1)
+stands_moved granted u (Some line) p now before after failed driver queue (inl is) = inl (at (line.unit == u) is)
+  where
+    at : (b : Bool) → OfUnit b (PairIs (HasCome granted line.verb p now) before) (PairIs (FollowsReplay granted now) before)
+        → OfUnit b (PairIs (HasCome granted line.verb p now) after) (PairIs (FollowsReplay granted now) after)
+    at true come = pair_still (HasCome granted line.verb p now) before after (come_still granted line.verb p now) driver queue come
+    at false f = pair_still (FollowsReplay granted now) before after (λ at at' client registered f. follows_still granted now at at' f client registered) driver queue f
+
 stands_still : (granted u : ℕ) (script : Script) (before after : Pair) → (PairIs WasFailed before → PairIs WasFailed after) → after.driver ≡ before.driver → length after.window.pages ≡ length before.window.pages
     → (side_of after.link false).registered ≡ (side_of before.link false).registered → StandsPlainly granted u script before → StandsPlainly granted u script after
 stands_still granted u script before after failed driver pages queue stood = record {
   replayed = subst (λ n. IsReplayed granted n before_lines (ended_by u script.lines.now script.logs.items)) (sym pages) stood.replayed;
   stands = subst (λ n. StandsAt granted u (slice_get script.lines.now script.at) script.progress (after_ended granted n before_lines (ended_by u script.lines.now script.logs.items)) after) (sym pages)
-      (by (slice_get script.lines.now script.at) (after_ended granted (length before.window.pages) before_lines (ended_by u script.lines.now script.logs.items)) stood.stands);
+      (stands_moved granted u (slice_get script.lines.now script.at) script.progress (after_ended granted (length before.window.pages) before_lines (ended_by u script.lines.now script.logs.items))
+      before after failed driver queue stood.stands);
 }
-  where
-    follows : (now : Replay) → PairIs (FollowsReplay granted now) before → PairIs (FollowsReplay granted now) after
-    follows now = pair_still (FollowsReplay granted now) before after (λ at at' client registered f. follows_still granted now at at' f client registered) driver queue
-
-    rests : (later : Replay) → PairIs (RestsAs granted later) before → PairIs (RestsAs granted later) after
-    rests later = rests_either granted later before after driver queue failed
-
-    by : (o : Option Line) (now : Replay) → StandsAt granted u o script.progress now before → StandsAt granted u o script.progress now after
-    by None now is = (is.0, rests is.0 is.1)
-    by (Some line) now (inr is) = inr (is.0, failed is.1)
-    by (Some line) now (inl is) = inl (at (line.unit == u) is)
-      where
-        at : (b : Bool) → OfUnit b (PairIs (HasCome granted line.verb script.progress now) before) (PairIs (FollowsReplay granted now) before)
-            → OfUnit b (PairIs (HasCome granted line.verb script.progress now) after) (PairIs (FollowsReplay granted now) after)
-        at true come = pair_still (HasCome granted line.verb script.progress now) before after (come_still granted line.verb script.progress now) driver queue come
-        at false f = follows now f
 
 pub clients_stand : (granted u k : ℕ) (old new : List Pair) (script : Script) → (slice_get new k ≡ None → slice_get old k ≡ None)
     → ((before after : Pair) → slice_get old k ≡ Some before → slice_get new k ≡ Some after → PairIs WasFailed before → PairIs WasFailed after) → SameClients old new → StandsPlainlyAt granted u k old script

@@ -47,7 +47,7 @@ none_meets (write ∷ next ∷ more) old new page own meets = meets
 
 -- ---- a unit that was not put
 
-not_written : (writes : List Write) (old new : PortState) (why : Refused) → IsOwnWindow old → WhyNotWritten false writes old new why → why ≡ NoMemory
+pub not_written : (writes : List Write) (old new : PortState) (why : Refused) → IsOwnWindow old → WhyNotWritten false writes old new why → why ≡ NoMemory
 not_written writes old new NoMemory own why_not = refl
 not_written writes old new (InUse page word) own why_not = absurd (none_meets writes old new page own why_not)
 not_written writes old new Range own why_not = absurd why_not

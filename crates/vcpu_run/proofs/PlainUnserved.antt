@@ -20,7 +20,7 @@ use Rattle.vcpu_run.proofs.PlainTurned.{lent_at, talks_lent}
 use Rattle.vcpu_run.proofs.PlainTurns.{Turns, gone_vacant, hears_these, none_vacant}
 
 -- the queue is not registered: the client is away, and its server unit is vacant once it has heard of that
-away_vacant : (granted : ℕ) (at at' : Between) (lines lines' : List Grant) (words : List Word) → TalksPlainly granted at words → at.own.registered ≡ false
+pub away_vacant : (granted : ℕ) (at at' : Between) (lines lines' : List Grant) (words : List Word) → TalksPlainly granted at words → at.own.registered ≡ false
     → (turn : Turns at at' lines lines' words) → IsVacant turn.middle
 away_vacant granted at at' lines lines' words talks off turn = by talks.phase
   where

@@ -71,7 +71,7 @@ no_entry held entry none some = cc (none, some)
 keeps_held : (b c : Site) → c.client.held ≡ b.client.held → IsSome b.client.held → IsSome c.client.held
 keeps_held b c same some = subst IsSome (sym same) some
 
-sent_held : (due : Due) (others : List Due) (answer : SendAnswer) (s : ClientState) → (sent_by due others answer s).held ≡ s.held
+pub sent_held : (due : Due) (others : List Due) (answer : SendAnswer) (s : ClientState) → (sent_by due others answer s).held ≡ s.held
 sent_held due others answer s = by (is_dropped answer)
   where
     by : (d : Bool) → (cond d s (record s { due = others; login = sent_stage due s.login })).held ≡ s.held

@@ -143,7 +143,7 @@ lends_none : (script : Script) (line : Line) (unit : ℕ) → slice_get script.l
 lends_none script line unit found plain own =
     own_line (line.unit == unit) (puts_other line.verb) own (all_at (λ (l : Line). lends_other unit l ≡ false) script.lines.now script.at line found plain)
 
-no_call : (script : Script) (line : Line) → slice_get script.lines.now script.at ≡ Some line → HasNoCall script.lines.now → is_call line.verb ≡ false
+pub no_call : (script : Script) (line : Line) → slice_get script.lines.now script.at ≡ Some line → HasNoCall script.lines.now → is_call line.verb ≡ false
 no_call script line found none = all_at (λ (l : Line). is_call l.verb ≡ false) script.lines.now script.at line found none
 
 waits_keeps : (b : Bool) (lan lan' : LanValue) (unit : UnitId) (seat : PortSeat) (own : List Ended) (verb : Verb) (done done' : ℕ) (moved : Moved)

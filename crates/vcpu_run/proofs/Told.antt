@@ -5,6 +5,7 @@ use Rattle.boot_text.specs.declared.plan.Partition.{Partition}
 use Rattle.lan_script.specs.declared.seat.PortSeat.{PortSeat}
 use Rattle.vio_trace.specs.Form.{IsInOrder}
 use Rattle.vio_trace.specs.declared.rows.Trace.{Trace}
+use Rattle.vcpu_run.specs.ClientRuns.{ClientsTell}
 use Rattle.vcpu_run.specs.CopiesCounted.{copies_at}
 use Rattle.vcpu_run.specs.declared.pair.Pair.{Pair}
 use Rattle.vcpu_run.specs.declared.script.Script.{Script}
@@ -18,7 +19,6 @@ use Rattle.vcpu_run.specs.Lines.{IsOver}
 use Rattle.vcpu_run.specs.GatheredLaw.{LinesAreLawful, LoginsAreLawful, PartsAreLawful, RestIsLawful}
 use Rattle.vcpu_run.specs.Machines.{IsOfPlan}
 use Rattle.lan_script.specs.Units.{LanValue}
-use Rattle.vcpu_run.specs.PlainClients.{PlainClientsAreScripted}
 use Rattle.vcpu_run.specs.PortsRest.{PortsEnd}
 use Rattle.vcpu_run.specs.Received.{AreAtRest}
 use Rattle.vcpu_run.specs.Refusals.{RefusalsAreTold}
@@ -95,6 +95,11 @@ each_told (Err error) P Q step is = tt
 
 -- the law of a run of a plan
 pub law_of_plan : (o : Option Trace) (plan : Plan) → IfSome o (KeepsLawOf plan.partitions) → IfSome o (λ trace. All (GrantsMany plan.grant) trace.grants)
-    → IfSome o (PlainClientsAreScripted plan.grant plan.partitions) → IfSome o (KeepsLaw plan)
-law_of_plan None plan law grants scripted = tt
-law_of_plan (Some trace) plan law grants scripted = record { law = law; grants = grants; scripted = scripted }
+    → IfSome o (ClientsTell plan.grant plan.partitions) → IfSome o (KeepsLaw plan)
+law_of_plan None plan law grants clients = tt
+law_of_plan (Some trace) plan law grants clients = record {
+  law = law;
+  grants = grants;
+  scripted = clients.scripted;
+  own = clients.own;
+}

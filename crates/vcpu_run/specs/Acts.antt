@@ -2,11 +2,12 @@
 -- they left.
 use Rattle.std.specs.Prelude.{◌≡◌, ◌≢◌, ◌⊎◌, ℕ, ◌+◌, ◌≤◌, ◌↔◌, All, Bool, false, IfErr, IfOk, IfSome, IsErrOf, List, [], ◌∷◌, None, Ok, Err, Result, Some, length, ⊤}
 use Rattle.std.specs.List.{sum}
+use Rattle.vio_num.specs.declared.hypervisor.Moved.TheVariants as moves
 use Rattle.vio_num.specs.declared.memory.NoMemory.{NoMemory}
 use Rattle.boot_text.specs.declared.verb.Verb.{Verb}
 use Rattle.boot_text.specs.declared.verb.Verb.TheVariants as verbs
 use Rattle.crq_session.specs.Answered.{FindsInUse, TellsFreed}
-use Rattle.crq_session.specs.EndState.{EndState, OnlyFrees, OnlyReserves}
+use Rattle.crq_session.specs.EndState.{EndState, OnlyFrees, OnlyReserves, OnlySends, OnlyTakes}
 use Rattle.tce_window.specs.PortState.{OnlyReads, OnlyWrites, PortState}
 use Rattle.vio_trace.specs.declared.outcome.Outcome.TheVariants as outcomes
 use Rattle.vio_trace.specs.declared.rows.AnswerRow.{AnswerRow}
@@ -20,6 +21,7 @@ use Rattle.vscsi_client.specs.declared.answers.DataFault.{DataFault}
 use Rattle.vscsi_client.specs.declared.answers.DataFault.TheVariants as faults
 use Rattle.vscsi_client.specs.declared.answers.LoginTurn.{LoginTurn}
 use Rattle.vscsi_client.specs.declared.answers.Refused.{Refused}
+use Rattle.vscsi_client.specs.declared.answers.Refused.TheVariants as whys
 use Rattle.vscsi_client.specs.declared.answers.Taken.{Taken}
 use Rattle.vscsi_client.specs.declared.answers.Taken.TheVariants.{Again, Answer, Empty, Lost, Other, Stray}
 use Rattle.vscsi_client.specs.declared.op.Op.{Op}
@@ -105,7 +107,7 @@ pub record LogsInUnfreed (line : ℕ) (old new : Acting) (step : Step) : Type 0 
 -- A reset frees the queue first, and then logs in.
 abbrev pub ResetsFirst : (line : ℕ) → (p p' : Progress) → (old new : Acting) → Step → Type 0
 ResetsFirst line p p' old new step =
-    (FreesQueue old new × (p' ≡ progress.Freed) × IsWaiting step)
+    (FreesQueue old new × (p' ≡ progress.Freed) × (step ≡ steps.Waits moves.Moved))
     ⊎ ((LogsInUnfreed line old new step × (p' ≡ progress.Freed)) ⊎ (FindsQueueUsed old new × (p' ≡ p) × IsWaiting step))
 
 abbrev pub ResetsOnce : (line : ℕ) → (p p' : Progress) → (old new : Acting) → Step → Type 0
@@ -134,12 +136,15 @@ abbrev pub SubmitsAs : (line : ℕ) → Op → (old new : Acting) → Result ℕ
 SubmitsAs line op old new (Ok tag) = Submitted line op old.client new.client old.ports new.ports tag
 SubmitsAs line op old new (Err why) = RefusesOp line op old new why
 
--- One command was sent, or was not.
+-- One command was sent, or was not, and memory did not run out.
 pub record SubmitsOnce (line : ℕ) (op : Op) (old new : Acting) (step : Step) : Type 0 where
   pub answer : Result ℕ Refused
   pub submits : SubmitsAs line op old new answer
   pub says : SaysAs answer step
   pub answers : new.answers ≡ old.answers
+  pub crq : OnlySends old.ports.crq_shared old.ports.crq new.ports.crq
+  pub own : OnlyWrites old.ports.own new.ports.own
+  pub memory : answer ≢ Err whys.NoMemory
 
 -- It is that of the line.
 pub record CommandsOnce (line : ℕ) (verb : Verb) (old new : Acting) (step : Step) : Type 0 where
@@ -148,7 +153,7 @@ pub record CommandsOnce (line : ℕ) (verb : Verb) (old new : Acting) (step : St
   pub cdb : op.cdb ≡ cdb_of verb
   pub submits : SubmitsOnce line op old new step
 
--- A task management request was sent, or was not.
+-- A task management request was sent, or was not, and memory did not run out.
 abbrev pub RefusesTask : (line function tag : ℕ) → (old new : Acting) → Refused → Type 0
 RefusesTask line function tag old new why =
     ((task_refusal old.client ≡ Some why) × TouchesNone old.ports new.ports)
@@ -163,8 +168,11 @@ pub record TasksOnce (line function tag : ℕ) (old new : Acting) (step : Step) 
   pub tasks : TasksAs line function tag old new answer
   pub says : SaysAs answer step
   pub answers : new.answers ≡ old.answers
+  pub crq : OnlySends old.ports.crq_shared old.ports.crq new.ports.crq
+  pub own : OnlyWrites old.ports.own new.ports.own
+  pub memory : answer ≢ Err whys.NoMemory
 
--- A logout was sent, or was not.
+-- A logout was sent, or was not, and memory did not run out.
 abbrev pub RefusesLogout : (line : ℕ) → (old new : Acting) → Refused → Type 0
 RefusesLogout line old new why =
     ((logout_refusal old.client ≡ Some why) × TouchesNone old.ports new.ports)
@@ -179,6 +187,9 @@ pub record LogsOutOnce (line : ℕ) (old new : Acting) (step : Step) : Type 0 wh
   pub logs_out : LogsOutAs line old new answer
   pub says : SaysAs answer step
   pub answers : new.answers ≡ old.answers
+  pub crq : OnlySends old.ports.crq_shared old.ports.crq new.ports.crq
+  pub own : OnlyWrites old.ports.own new.ports.own
+  pub memory : answer ≢ Err whys.NoMemory
 
 -- ANSWERS -----------------------------------------------------------------------------------------
 
@@ -196,12 +207,16 @@ abbrev pub NotesTaken : Taken → (session : ℕ) → (old new : List AnswerRow)
 NotesTaken (Answer tag response) session old new = NotesIn session tag response old new
 NotesTaken taken session old new = new ≡ old
 
--- One entry was taken, or none was there.
+-- One entry was taken, or none was there, and nothing else was done at the ports.
 pub record TakesOnce (took : Took) (old new : Acting) : Type 0 where
   pub taken : Taken
   pub is : took ≡ took_as taken
   pub takes : TakesEntry old.client new.client old.ports new.ports taken
   pub notes : NotesTaken taken new.ports.crq.last_session old.answers new.answers
+  pub crq : OnlyTakes old.ports.crq_shared old.ports.crq new.ports.crq
+  pub own : OnlyReads old.ports.own_shared old.ports.own new.ports.own
+  pub crq_hands : new.ports.crq_shared ≡ old.ports.crq_shared
+  pub own_hands : new.ports.own_shared ≡ old.ports.own_shared
 
 -- these, the latest first, were taken one after another
 abbrev pub TakesEach : List Took → (old new : Acting) → Type 0
@@ -237,7 +252,8 @@ EndsTaking count taken slots entries s (steps.Ends (outcomes.Took n)) =
     (n ≡ taken) × (((entries ≡ []) × (count ≤ taken)) ⊎ ((EndsIn tooks.Answer entries × (taken ≡ count)) ⊎ (EndsIn tooks.Nothing entries × (s.outgoing ≡ []))))
 EndsTaking count taken slots entries s (steps.Ends (outcomes.TookThenLost n)) = (n ≡ taken) × EndsIn tooks.Lost entries
 EndsTaking count taken slots entries s (steps.Ends outcome) = ⊥
-EndsTaking count taken slots entries s (steps.Waits did) = EndsIn tooks.InUse entries ⊎ ((EndsIn tooks.Nothing entries × (s.outgoing ≢ [])) ⊎ TakesSlots slots entries)
+EndsTaking count taken slots entries s (steps.Waits did) =
+    EndsIn tooks.InUse entries ⊎ ((EndsIn tooks.Nothing entries × (s.outgoing ≢ [])) ⊎ (TakesSlots slots entries × (did ≡ moves.Moved)))
 
 -- A line took entries, having taken so many answers before, until it ended so.
 pub record TakesForLine (count taken taken' : ℕ) (old new : Acting) (step : Step) : Type 0 where

@@ -1,5 +1,5 @@
 -- What the driver of a plain client does at its pair, as the replay of its lines says; and what a step says that did nothing.
-use Rattle.std.specs.Prelude.{◌≡◌, ◌⊎◌, ℕ, ◌≤◌, false, [], Result}
+use Rattle.std.specs.Prelude.{◌≡◌, ◌⊎◌, ℕ, ◌<◌, ◌≤◌, false, [], Result}
 use Rattle.vio_num.specs.declared.hypervisor.Moved.TheVariants as moves
 use Rattle.vio_num.specs.declared.memory.NoMemory.{NoMemory}
 use Rattle.boot_text.specs.declared.verb.Verb.{Verb}
@@ -21,7 +21,9 @@ own_in driver pair = own_of driver (end_of [] pair.link false) (known_of pair.wi
 abbrev pub DriverPlainly : Verb → (p p' : Progress) → (old new : Pair) → Result Step NoMemory → Type 0
 DriverPlainly verb p p' old new result = OnDrivers old.driver new.driver (λ a b. StepsPlainly verb p p' (own_in a old) (own_in b new) result)
 
--- A step is told as it is; but one that says it did nothing did something where the entries that were put are more than before.
-pub record IsToldSince (before now : ℕ) (step told : Step) : Type 0 where
+-- A step is told as it is; but one that says it did nothing did something just where the entries that were put, or those that were taken, are more
+-- than before.
+pub record IsToldSince (put put' taken taken' : ℕ) (step told : Step) : Type 0 where
   pub same : (told ≡ step) ⊎ ((step ≡ steps.Waits moves.Quiet) × (told ≡ steps.Waits moves.Moved))
-  pub quiet : told ≡ steps.Waits moves.Quiet → now ≤ before
+  pub quiet : told ≡ steps.Waits moves.Quiet → (put' ≤ put) × (taken' ≤ taken)
+  pub moved : step ≡ steps.Waits moves.Quiet → told ≡ steps.Waits moves.Moved → (put < put') ⊎ (taken < taken')

@@ -13,6 +13,7 @@ use Rattle.block_server.specs.declared.records.Records.{Records}
 use Rattle.block_server.specs.declared.server.Server.{Server}
 use Rattle.block_server.specs.declared.unit.Unit.{Unit}
 use Rattle.vcpu_run.specs.declared.pair.Pair.{Pair}
+use Rattle.vcpu_run.specs.ClientRuns.{AreClients, AreClientsQuietTo, AreClientsTo, NoClientAwaits}
 use Rattle.vcpu_run.specs.declared.script.Script.{Script}
 use Rattle.vcpu_run.specs.Agreed.{AreCredited}
 use Rattle.vcpu_run.specs.Answered.{AreAnswered}
@@ -24,7 +25,6 @@ use Rattle.vcpu_run.specs.Links.{AreIdleTo, AreLinked, AreOverTo, RestsAt, Seats
 use Rattle.vcpu_run.specs.Machines.{AllRun, AllStay}
 use Rattle.vcpu_run.specs.Pairs.{ArePairs}
 use Rattle.vcpu_run.specs.PlainPairs.{ServerBooks}
-use Rattle.vcpu_run.specs.PlainRuns.{ArePlain, ArePlainTo, ArePlainlyQuietTo, NoneAwait}
 use Rattle.vcpu_run.specs.PortWords.{PortsTell}
 use Rattle.vcpu_run.specs.PortsRest.{AreTakenTo, TurnRests}
 use Rattle.vcpu_run.specs.Received.{AreReceived}
@@ -64,8 +64,9 @@ pub record QuietTurn (number : ℕ) (old new : MachineParts) : Type 0 where
   pub idle : AreLinked old.stock.units old.pairs → IsSomeAnd (slice_get new.scripts number) IsOver
       → RestsAt number new.scripts old.stock.units new.stock.units old.pairs new.pairs
   pub ports : IsSomeAnd (slice_get new.scripts number) IsOver → IsSomeAnd (slice_get new.scripts number) (λ script. TurnRests script old.lan new.lan)
-  pub quietly : (granted : ℕ) → ArePlainTo granted old.stock.partition number (books_at old.stock) old.pairs old.scripts
-      → ArePlainlyQuietTo old.stock.partition number (books_at old.stock) old.scripts → ArePlainlyQuietTo new.stock.partition (number + 1) (books_at new.stock) new.scripts
+  pub quietly : AreLinked old.stock.units old.pairs → (granted : ℕ) → AreClientsTo granted old.stock.partition number (books_at old.stock) old.pairs old.scripts
+      → AreClientsQuietTo old.stock.partition number (books_at old.stock) old.pairs old.scripts
+      → AreClientsQuietTo new.stock.partition (number + 1) (books_at new.stock) new.pairs new.scripts
 
 -- The same of a turn of its script, over whatever server, where it is none of server units.
 pub record QuietScript (number : ℕ) (old new : List Pair) (before after : List Script) (lan lan' : LanValue) : Type 0 where
@@ -74,7 +75,7 @@ pub record QuietScript (number : ℕ) (old new : List Pair) (before after : List
   pub idle : IsSomeAnd (slice_get after number) IsOver → IsSomeAnd (slice_get after number) (λ script. SeatsRestWhole script.seats.items old new)
   pub ports : IsSomeAnd (slice_get after number) IsOver → IsSomeAnd (slice_get after number) (λ script. TurnRests script lan lan')
   pub quietly : (granted home : ℕ) (books : ServerBooks) → IsSomeAnd (slice_get before number) (λ script. are_servers script.seats.items ≡ false)
-      → ArePlainTo granted home number books old before → ArePlainlyQuietTo home number books before → ArePlainlyQuietTo home (number + 1) books after
+      → AreClientsTo granted home number books old before → AreClientsQuietTo home number books old before → AreClientsQuietTo home (number + 1) books new after
 
 -- Where each script is over behind a round in which nothing moved, the units wait, and nothing is left to take of a port.
 pub record RestsWhereOver (old new : MachineParts) : Type 0 where
@@ -86,7 +87,7 @@ pub record QuietRound (old new : MachineParts) : Type 0 where
   pub opened : AreLinked old.stock.units old.pairs → AreOpenTo (length new.scripts) new.pairs new.scripts
   pub out : AreTold old.pairs old.scripts → AreOutTo (length new.scripts) new.pairs new.scripts
   pub rests : RestsWhereOver old new
-  pub quietly : (granted : ℕ) → ArePlain granted old.stock.partition (books_at old.stock) old.pairs old.scripts → NoneAwait new.scripts
+  pub quietly : AreLinked old.stock.units old.pairs → (granted : ℕ) → AreClients granted old.stock.partition (books_at old.stock) old.pairs old.scripts → NoClientAwaits new.scripts
 
 -- What a turn of a partition without server units keeps of the pairs, over whatever server.
 pub record KeepsPairs (old new : List Pair) : Type 0 where

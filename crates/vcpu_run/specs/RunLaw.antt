@@ -32,6 +32,7 @@ use Rattle.vcpu_run.specs.Credited.{KeepsCredit, ended_by}
 use Rattle.vcpu_run.specs.Intake.{EntriesAreFetched}
 use Rattle.vcpu_run.specs.Lines.{numbers_to_fail}
 use Rattle.vcpu_run.specs.LoginsSent.{LoginsAreAnswered, LoginsAreSent}
+use Rattle.vcpu_run.specs.OwnClients.{OwnClientsTell}
 use Rattle.vcpu_run.specs.PlainClients.{PlainClientsAreScripted}
 use Rattle.vcpu_run.specs.Ports.{ports_of}
 use Rattle.vcpu_run.specs.PortWords.{PortsAreTold}
@@ -144,8 +145,10 @@ pub record KeepsLawOf (partitions : List Partition) (trace : Trace) : Type 0 whe
   pub logins : LoginsAreSent partitions trace
   pub dealt : LoginsAreAnswered partitions trace
 
--- And each login that a line says was granted grants as many requests as the plan says, and each plain client did exactly what its script says.
+-- And each login that a line says was granted grants as many requests as the plan says; each plain client did exactly what its script says; and
+-- what an own client's lines tell is so of its server unit.
 pub record KeepsLaw (plan : Plan) (trace : Trace) : Type 0 where
   pub law : KeepsLawOf plan.partitions trace
   pub grants : All (GrantsMany plan.grant) trace.grants
   pub scripted : PlainClientsAreScripted plan.grant plan.partitions trace
+  pub own : OwnClientsTell plan.partitions trace

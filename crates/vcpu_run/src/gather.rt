@@ -12,9 +12,8 @@ ghost use Rattle.vcpu_run.specs.GatheredLaw.{LinesAreLawful, LoginsAreLawful, Pa
 ghost use Rattle.vcpu_run.specs.Lines.{IsOver};
 ghost use Rattle.vcpu_run.specs.Machines.{AreScripts, IsOfPlan};
 ghost use Rattle.vcpu_run.specs.Pairs.{AreOfOneHome};
-ghost use Rattle.vcpu_run.specs.PlainClients.{PlainClientsAreScripted};
+ghost use Rattle.vcpu_run.specs.ClientRuns.{AreClients, ClientsTell};
 ghost use Rattle.vcpu_run.specs.PlainPairs.{books_of};
-ghost use Rattle.vcpu_run.specs.PlainRuns.{ArePlain};
 ghost use Rattle.vcpu_run.specs.Received.{AreAtRest};
 ghost use Rattle.vcpu_run.specs.Refusals.{RefusalsAreTold};
 ghost use Rattle.vcpu_run.specs.ScriptTold.{AreTold};
@@ -76,13 +75,13 @@ pub(crate) fn gather(
         AreAnswered history.items pairs.items →
         AreAtRest copies.items grants.items history.items pairs.items scripts.entry.items →
         LoginsAreLawful partitions trace) }
-    ensures plainly { IfOk result (λ trace. (partitions : List Partition) →
+    ensures clients { IfOk result (λ trace. (partitions : List Partition) →
         IsOfPlan partitions pairs.items scripts.entry.items lan.seats →
         AreTold pairs.items scripts.entry.items →
         AreAtRest copies.items grants.items history.items pairs.items scripts.entry.items →
         (granted home : ℕ) (units : List Unit) →
-        ArePlain granted home (books_of units grants.items history.items)
-        pairs.items scripts.entry.items → PlainClientsAreScripted granted partitions trace) }
+        AreClients granted home (books_of units grants.items history.items)
+        pairs.items scripts.entry.items → ClientsTell granted partitions trace) }
 {
     rows_of(alloc, pairs, scripts, lan, history, grants, copies)
 }

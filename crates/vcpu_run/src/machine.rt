@@ -14,9 +14,8 @@ ghost use Rattle.vcpu_run.specs.Lines.{IsOver};
 ghost use Rattle.vcpu_run.specs.Machines.{AreScripts, IsMachine, IsOfPlan};
 ghost use Rattle.vcpu_run.specs.OnDisk.{IsServed, LastsInRows, LeadsOn};
 ghost use Rattle.vcpu_run.specs.Pairs.{AreOfOneHome};
-ghost use Rattle.vcpu_run.specs.PlainClients.{PlainClientsAreScripted};
+ghost use Rattle.vcpu_run.specs.ClientRuns.{AreClients, ClientsTell};
 ghost use Rattle.vcpu_run.specs.PlainPairs.{books_of};
-ghost use Rattle.vcpu_run.specs.PlainRuns.{ArePlain};
 ghost use Rattle.vcpu_run.specs.Ports.{ports_of};
 ghost use Rattle.vcpu_run.specs.PortSteps.{AreFresh};
 ghost use Rattle.vcpu_run.specs.PortsRest.{PortsEnd};
@@ -78,8 +77,8 @@ impl<'p, Di: Blocks> Machine<'p, Di> {
         ensures grants { IfOk result (λ machine. GrantEach plan.now.grant
             machine.server.units.items machine.server.records.grants.items) }
         ensures none { IfOk result (λ machine. machine.server.records.history.items ≡ []) }
-        ensures plainly { IfOk result (λ machine.
-            ArePlain plan.now.grant machine.server.partition (books_in machine.server)
+        ensures clients { IfOk result (λ machine.
+            AreClients plan.now.grant machine.server.partition (books_in machine.server)
             machine.pairs.items machine.scripts.items) }
     {
         let partitions = plan.partitions.as_slice();
@@ -122,11 +121,11 @@ impl<'p, Di: Blocks> Machine<'p, Di> {
             self.entry.lan.seats → KeepsLawOf partitions trace) }
         ensures grants { TellsGrants self.entry.server.units.items
             self.entry.server.records.grants.items result.trace }
-        ensures plainly { IfSome result.trace (λ trace. (partitions : List Partition) →
+        ensures clients { IfSome result.trace (λ trace. (partitions : List Partition) →
             IsOfPlan partitions self.entry.pairs.items self.entry.scripts.items
-            self.entry.lan.seats → (granted : ℕ) → ArePlain granted self.entry.server.partition
+            self.entry.lan.seats → (granted : ℕ) → AreClients granted self.entry.server.partition
             (books_in self.entry.server) self.entry.pairs.items self.entry.scripts.items →
-            PlainClientsAreScripted granted partitions trace) }
+            ClientsTell granted partitions trace) }
         ensures caused { IfSome result.trace (λ trace. (partitions : List Partition) →
             IsOfPlan partitions self.entry.pairs.items self.entry.scripts.items
             self.entry.lan.seats → KeepsCaused partitions trace
@@ -219,11 +218,11 @@ fn trace_of(
         IsShownAll partitions trace copies.items pairs.items) }
     ensures law { IfSome result (λ trace. (partitions : List Partition) →
         IsOfPlan partitions pairs.items scripts.entry.items lan.seats → KeepsLawOf partitions trace) }
-    ensures plainly { IfSome result (λ trace. (partitions : List Partition) →
+    ensures clients { IfSome result (λ trace. (partitions : List Partition) →
         IsOfPlan partitions pairs.items scripts.entry.items lan.seats →
-        (granted home : ℕ) (units : List Unit) → OnOk run (ArePlain granted home
+        (granted home : ℕ) (units : List Unit) → OnOk run (AreClients granted home
         (books_of units grants.items history.items) pairs.items scripts.entry.items) →
-        PlainClientsAreScripted granted partitions trace) }
+        ClientsTell granted partitions trace) }
 {
     match run {
         Ok(()) => gather(alloc, pairs, scripts, lan, history, grants, copies).ok(),

@@ -12,7 +12,8 @@ ghost use Rattle.vcpu_run.specs.Links.{IsClosed, IsLinked, ServerWaits, link_sta
 ghost use Rattle.vcpu_run.specs.Machines.{FitsSeat, HasSeat, SitsAt, Stays};
 ghost use Rattle.vcpu_run.specs.PairServed.{IsServedAt, LeavesClient, PairGoesBy, SparesPair};
 ghost use Rattle.vcpu_run.specs.Pairs.{IsPair};
-ghost use Rattle.vcpu_run.specs.PlainPairs.{IdlesPlainly, OpensPlainly, ServesPlainly};
+ghost use Rattle.vcpu_run.specs.ClientRuns.{ServesClients};
+ghost use Rattle.vcpu_run.specs.PlainPairs.{IdlesPlainly, OpensPlainly};
 ghost use Rattle.vcpu_run.specs.Received.{IsNew};
 ghost use Rattle.vcpu_run.specs.Served.{ServerLasts, books_in};
 
@@ -164,7 +165,7 @@ impl Pair {
         ensures quiet { IfOk result (λ moved. moved ≡ Moved.Quiet →
             IsLinked server.old.units.items unit self.old →
             ServerWaits (slice_get server.new.units.items unit) (link_state self.new.link)) }
-        ensures plainly { OnOk result (ServesPlainly server.old.partition
+        ensures clients { OnOk result (ServesClients server.old.partition
             (books_in server.old) (books_in server.new) unit self.old self.new) }
         ensures idles { IfOk result (λ moved. moved ≡ Moved.Quiet →
             IdlesPlainly server.old.partition

@@ -15,8 +15,8 @@ ghost use Rattle.vcpu_run.specs.ScriptTold.{AreTold};
 ghost use Rattle.vcpu_run.specs.Scripts.{are_servers};
 ghost use Rattle.vcpu_run.specs.Machines.{AllRun, AreScripts, IsMachine, IsServing};
 ghost use Rattle.vcpu_run.specs.Pairs.{AreDrivers};
-ghost use Rattle.vcpu_run.specs.PlainRuns.{ArePlain, ArePlainTo, AwaitsNoneAt, NoneAwait};
-ghost use Rattle.vcpu_run.specs.PlainPairs.{IdlesPlainlyAt, ServerBooks, ServesPlainlyAt};
+ghost use Rattle.vcpu_run.specs.ClientRuns.{AreClients, AreClientsTo, NoClientAwaits, NoClientAwaitsAt, ServesClientsAt};
+ghost use Rattle.vcpu_run.specs.PlainPairs.{IdlesPlainlyAt, ServerBooks};
 ghost use Rattle.vcpu_run.specs.PortWords.{PortsTell};
 ghost use Rattle.vcpu_run.specs.PortsRest.{AreTakenTo};
 ghost use Rattle.block_server.specs.TurnStock.{stock_of};
@@ -55,9 +55,9 @@ pub(crate) fn run<Di: Blocks>(
     ensures idle { OnOk result (AreLinked server.old.units.items pairs.old →
         AreIdle server.new.units.items pairs.new scripts.new) }
     ensures ports { OnOk result (AreTakenTo (length scripts.new) lan.new scripts.new) }
-    ensures plainly { OnOk result ((granted : ℕ) →
-        ArePlain granted server.old.partition (books_in server.old) pairs.old scripts.old →
-        ArePlain granted server.new.partition (books_in server.new) pairs.new scripts.new) }
+    ensures clients { OnOk result (AreLinked server.old.units.items pairs.old → (granted : ℕ) →
+        AreClients granted server.old.partition (books_in server.old) pairs.old scripts.old →
+        AreClients granted server.new.partition (books_in server.new) pairs.new scripts.new) }
 {
     for _round in 0..u64::MAX {
         let moved = step(server, pairs, scripts, lan)?;
@@ -108,9 +108,9 @@ fn step<Di: Blocks>(
     ensures rests { IfOk result (λ moved. moved ≡ Moved.Quiet →
         RestsWhereOver (parts_at server.old pairs.old scripts.old lan.old)
         (parts_at server.new pairs.new scripts.new lan.new)) }
-    ensures plainly { OnOk result ((granted : ℕ) →
-        ArePlain granted server.old.partition (books_in server.old) pairs.old scripts.old →
-        ArePlain granted server.new.partition (books_in server.new) pairs.new scripts.new) }
+    ensures clients { OnOk result (AreLinked server.old.units.items pairs.old → (granted : ℕ) →
+        AreClients granted server.old.partition (books_in server.old) pairs.old scripts.old →
+        AreClients granted server.new.partition (books_in server.new) pairs.new scripts.new) }
 {
     match round(server, pairs, scripts, lan)? {
         Moved::Moved => Ok(Moved::Moved),
@@ -137,9 +137,9 @@ fn round<Di: Blocks>(
         (parts_at server.new pairs.new scripts.new lan.new)) }
     ensures unfreed { OnOk result (KeepQueues pairs.old scripts.old →
         KeepQueues pairs.new scripts.new) }
-    ensures plainly { OnOk result ((granted : ℕ) →
-        ArePlain granted server.old.partition (books_in server.old) pairs.old scripts.old →
-        ArePlain granted server.new.partition (books_in server.new) pairs.new scripts.new) }
+    ensures clients { OnOk result ((granted : ℕ) →
+        AreClients granted server.old.partition (books_in server.old) pairs.old scripts.old →
+        AreClients granted server.new.partition (books_in server.new) pairs.new scripts.new) }
     ensures quiet { IfOk result (λ moved. moved ≡ Moved.Quiet →
         QuietRound (parts_at server.old pairs.old scripts.old lan.old)
         (parts_at server.new pairs.new scripts.new lan.new)) }
@@ -175,9 +175,9 @@ fn turn_at<Di: Blocks>(
         KeepQueues pairs.new scripts.new) }
     ensures elsewhere { (i : ℕ) → i ≢ number →
         slice_get scripts.new i ≡ slice_get scripts.old i }
-    ensures plainly { OnOk result ((granted : ℕ) → ArePlainTo granted server.old.partition number
+    ensures clients { OnOk result ((granted : ℕ) → AreClientsTo granted server.old.partition number
         (books_in server.old) pairs.old scripts.old →
-        ArePlainTo granted server.new.partition (number + 1)
+        AreClientsTo granted server.new.partition (number + 1)
         (books_in server.new) pairs.new scripts.new) }
     ensures quiet { IfOk result (λ moved. moved ≡ Moved.Quiet →
         QuietTurn number (parts_at server.old pairs.old scripts.old lan.old)
@@ -206,7 +206,7 @@ fn serve<Di: Blocks>(server: &mut Server<Di>, pairs: &mut [Pair]) -> Result<Move
     ensures wait { IfOk result (λ moved. moved ≡ Moved.Quiet →
         AreLinked server.old.units.items pairs.old →
         ServersWait server.new.units.items (links_of pairs.new)) }
-    ensures plainly { OnOk result ((k : ℕ) → ServesPlainlyAt server.old.partition
+    ensures clients { OnOk result ((k : ℕ) → ServesClientsAt server.old.partition
         (books_in server.old) (books_in server.new) pairs.old pairs.new k) }
     ensures idles { IfOk result (λ moved. moved ≡ Moved.Quiet → (k : ℕ) →
         IdlesPlainlyAt server.old.partition
@@ -244,7 +244,7 @@ fn serve_at<Di: Blocks>(
         (ServerWaits (slice_get server.new.units.items unit))) }
     ensures aside { (k : ℕ) → k ≢ unit →
         StaysAside (stock_of server.old) (stock_of server.new) pairs.old pairs.new k }
-    ensures plainly { OnOk result (ServesPlainlyAt server.old.partition
+    ensures clients { OnOk result (ServesClientsAt server.old.partition
         (books_in server.old) (books_in server.new) pairs.old pairs.new unit) }
     ensures idles { IfOk result (λ moved. moved ≡ Moved.Quiet →
         IdlesPlainlyAt server.old.partition
@@ -278,10 +278,10 @@ fn run_script(
         KeepQueues pairs.new scripts.new) }
     ensures elsewhere { (i : ℕ) → i ≢ number →
         slice_get scripts.new i ≡ slice_get scripts.old i }
-    ensures plainly { OnOk result ((granted home : ℕ) (books : ServerBooks) →
+    ensures clients { OnOk result ((granted home : ℕ) (books : ServerBooks) →
         IsSomeAnd (slice_get scripts.old number) (λ script. are_servers script.seats.items ≡ false) →
-        ArePlainTo granted home number books pairs.old scripts.old →
-        ArePlainTo granted home (number + 1) books pairs.new scripts.new) }
+        AreClientsTo granted home number books pairs.old scripts.old →
+        AreClientsTo granted home (number + 1) books pairs.new scripts.new) }
     ensures quiet { IfOk result (λ moved. moved ≡ Moved.Quiet →
         QuietScript number pairs.old pairs.new scripts.old scripts.new lan.old lan.new) }
 {
@@ -297,10 +297,10 @@ fn end_lines(scripts: &mut [Script<'_>]) -> Result<Moved, NoMemory>
         AreScripts pairs ports scripts.old →
         KeepsScripts (λ i. i < length scripts.old) pairs scripts.old scripts.new) }
     ensures quiet { IfOk result (λ moved. moved ≡ Moved.Quiet → scripts.new ≡ scripts.old) }
-    ensures plainly { OnOk result ((granted home : ℕ) (books : ServerBooks) (pairs : List Pair)
-        (ports : List PortSeat) → AreScripts pairs ports scripts.old → NoneAwait scripts.old →
-        ArePlain granted home books pairs scripts.old →
-        ArePlain granted home books pairs scripts.new) }
+    ensures clients { OnOk result ((granted home : ℕ) (books : ServerBooks) (pairs : List Pair)
+        (ports : List PortSeat) → AreScripts pairs ports scripts.old → NoClientAwaits scripts.old →
+        AreClients granted home books pairs scripts.old →
+        AreClients granted home books pairs scripts.new) }
 {
     let mut moved = Moved::Quiet;
     for number in 0..scripts.len() {
@@ -322,10 +322,10 @@ fn end_line_at(scripts: &mut [Script<'_>], number: usize) -> Result<Moved, NoMem
     ensures quiet { IfOk result (λ moved. moved ≡ Moved.Quiet → scripts.new ≡ scripts.old) }
     ensures elsewhere { (i : ℕ) → i ≢ number →
         slice_get scripts.new i ≡ slice_get scripts.old i }
-    ensures plainly { OnOk result ((granted home : ℕ) (books : ServerBooks) (pairs : List Pair)
-        (ports : List PortSeat) → AreScripts pairs ports scripts.old → AwaitsNoneAt number scripts.old →
-        ArePlain granted home books pairs scripts.old →
-        ArePlain granted home books pairs scripts.new) }
+    ensures clients { OnOk result ((granted home : ℕ) (books : ServerBooks) (pairs : List Pair)
+        (ports : List PortSeat) → AreScripts pairs ports scripts.old → NoClientAwaitsAt number scripts.old →
+        AreClients granted home books pairs scripts.old →
+        AreClients granted home books pairs scripts.new) }
 {
     scripts[number].end_waiting()
 }

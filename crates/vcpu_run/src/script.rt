@@ -1,7 +1,7 @@
 // A partition: its script, and a turn of it.
 ghost use Rattle.std.specs.Prelude.{[], ◌≡◌, ◌<◌, ℕ, All, IfOk, IfSome, List, Some, OnOk, false, length, slice_get, true};
 ghost use Rattle.std.specs.List.{AllPairs};
-ghost use Rattle.vcpu_run.specs.ActsAt.{AllLead, FailsOnce, GoesOnce, GoesWith, TurnActs};
+ghost use Rattle.vcpu_run.specs.ActsAt.{FailsLine, GoesOnce, GoesWith, TurnActs};
 ghost use Rattle.vcpu_run.specs.declared.pair.Pair.{Pair as PairValue};
 ghost use Rattle.vcpu_run.specs.Agreed.{AreLoggedOut, IsCredited, IsEnded, SameElse};
 ghost use Rattle.vio_trace.specs.declared.window_rows.CopyRow.{CopyRow};
@@ -12,7 +12,8 @@ ghost use Rattle.vcpu_run.specs.Lines.{IsOver, is_over, place_behind};
 ghost use Rattle.vcpu_run.specs.Holding.{LeavesResetOpen, IsResetOpen, KeepsQueues};
 ghost use Rattle.vcpu_run.specs.Links.{SeatsRest, SeatsRestWhole};
 ghost use Rattle.vcpu_run.specs.Pairs.{AreDriven, AreDrivers};
-ghost use Rattle.vcpu_run.specs.PlainScripts.{EndsPlainly, QuietsPlainly, StandsPlainly, StartsAnew, TurnsPlainly};
+ghost use Rattle.vcpu_run.specs.ClientRuns.{EndsClients};
+ghost use Rattle.vcpu_run.specs.PlainScripts.{QuietsPlainly, StandsPlainly, StartsAnew, TurnsPlainly};
 ghost use Rattle.vcpu_run.specs.Quietly.{OnQuiet};
 ghost use Rattle.lan_script.specs.Units.{LanValue};
 ghost use Rattle.vcpu_run.specs.Ports.{HasPorts};
@@ -152,7 +153,8 @@ impl<'p> Script<'p> {
         ensures plainly { OnOk result (TurnsPlainly pairs.old pairs.new self.old self.new) }
         ensures quiets { IfOk result (λ moved. moved ≡ Moved.Quiet →
             QuietsPlainly pairs.old pairs.new self.old self.new) }
-        ensures acts { OnOk result (TurnActs pairs.old pairs.new self.old self.new) }
+        ensures acts { IfOk result (λ moved.
+            TurnActs moved pairs.old pairs.new self.old self.new) }
     {
         let pushed = push_events(&self.seats, pairs)?;
         let moved = self.go_on(pairs, lan)?;
@@ -191,7 +193,8 @@ impl<'p> Script<'p> {
         ensures plainly { OnOk result (TurnsPlainly pairs.old pairs.new self.old self.new) }
         ensures quiets { IfOk result (λ moved. moved ≡ Moved.Quiet →
             QuietsPlainly pairs.old pairs.new self.old self.new) }
-        ensures acts { OnOk result (GoesOnce pairs.old pairs.new self.old self.new) }
+        ensures acts { IfOk result (λ moved.
+            GoesOnce moved pairs.old pairs.new self.old self.new) }
     {
         let lines = self.lines;
         match lines.get(self.at) {
@@ -230,7 +233,8 @@ impl<'p> Script<'p> {
         ensures plainly { OnOk result (TurnsPlainly pairs.old pairs.new self.old self.new) }
         ensures quiets { IfOk result (λ moved. moved ≡ Moved.Quiet →
             QuietsPlainly pairs.old pairs.new self.old self.new) }
-        ensures acts { OnOk result (GoesWith line.now pairs.old pairs.new self.old self.new) }
+        ensures acts { IfOk result (λ moved.
+            GoesWith moved line.now pairs.old pairs.new self.old self.new) }
     {
         if let Verb::Fail = line.verb {
             return self.step_fail(pairs, lan, line);
@@ -289,7 +293,9 @@ impl<'p> Script<'p> {
         ensures plainly { OnOk result (TurnsPlainly pairs.old pairs.new self.old self.new) }
         ensures quiets { IfOk result (λ moved. moved ≡ Moved.Quiet →
             QuietsPlainly pairs.old pairs.new self.old self.new) }
-        ensures acts { OnOk result (AllLead FailsOnce pairs.old pairs.new) }
+        ensures acts { IfOk result (λ moved.
+            FailsLine line.now pairs.old pairs.new self.old self.new
+            × (moved ≡ Moved.Quiet → self.new ≡ self.old)) }
     {
         if fail(self.partition, &self.seats, pairs, lan)? {
             self.end(line, Outcome::Done)?;
@@ -351,8 +357,8 @@ impl<'p> Script<'p> {
         ensures unfreed { OnOk result ((pairs : List PairValue) → IsScript pairs self.old →
             IsResetOpen pairs self.old → KeepsQueues pairs self.old → KeepsQueues pairs self.new) }
         ensures quiet { OnQuiet result (self.new ≡ self.old) }
-        ensures plainly { OnOk result ((granted u k : ℕ) (pairs : List PairValue) →
-            IsScript pairs self.old → EndsPlainly granted u k pairs self.old self.new) }
+        ensures clients { OnOk result ((pairs : List PairValue) → IsScript pairs self.old →
+            EndsClients pairs self.old self.new) }
     {
         let lines = self.lines;
         let Some(line) = lines.get(self.at) else {

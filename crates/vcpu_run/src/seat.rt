@@ -3,7 +3,8 @@ ghost use Rattle.std.specs.Prelude.{◌≡◌, [], ⊤, true, false, IfOk, IsSom
 ghost use Rattle.crq_session.specs.PlainState.{end_of, side_of};
 ghost use Rattle.vscsi_client.specs.Turned.{unlinked};
 ghost use Rattle.vcpu_run.specs.Acts.{TakesRest};
-ghost use Rattle.vcpu_run.specs.ActsAt.{AtPair, FailsOnce, PairActs, PushesEvent};
+ghost use Rattle.crq_ring.specs.Pipe.{IsLawfulPipe};
+ghost use Rattle.vcpu_run.specs.ActsAt.{AtPair, FailsOnce, IsUnmoved, PairActs, PushesEvent};
 ghost use Rattle.vcpu_run.specs.Pairs.{Drives, IsDriver};
 ghost use Rattle.vcpu_run.specs.Credited.{StepsAgreed, taken_in};
 ghost use Rattle.vcpu_run.specs.EventsMade.{PairCalm, PairMakes, PairShuts};
@@ -92,11 +93,14 @@ pub(crate) fn step(pair: &mut Pair, line: &Line, progress: &mut Progress) -> Res
     ensures plainly { PairPlainly line.now.verb progress.old progress.new
         pair.old pair.new result }
     ensures acts { IfOk result (PairActs line.now progress.old progress.new pair.old pair.new) }
+    ensures still { IfOk result (λ step. step ≡ Step.Waits Moved.Quiet →
+        IsUnmoved pair.old pair.new) }
+    ensures lawful { IsLawfulPipe (side_of pair.old.link false).queue }
 {
-    let before = count_put(pair);
+    let before = count(pair);
     let step = drive(pair, line, progress)?;
     took_no_more(pair);
-    Ok(moved_since(step, before, count_put(pair)))
+    Ok(moved_since(step, before, count(pair)))
 }
 
 // Has the client's driver make one step of this line.
@@ -135,11 +139,25 @@ fn drive(pair: &mut Pair, line: &Line, progress: &mut Progress) -> Result<Step, 
     driver.step(&mut crq, &mut pair.window, line, progress)
 }
 
-// Counts the entries that the client put.
-fn count_put(pair: &Pair) -> usize
-    ensures { result ≡ length (side_of pair.now.link true).queue.sent }
+// How many entries a client put, and how many it took.
+#[derive(Clone, Copy)]
+struct Handled {
+    put: usize,
+    taken: usize,
+}
+
+// Counts the entries that the client put, and those that it took from its queue, which is lawful.
+fn count(pair: &Pair) -> Handled
+    ensures put { result.put ≡ length (side_of pair.now.link true).queue.sent }
+    ensures taken { result.taken ≡ length (side_of pair.now.link false).queue.taken }
+    ensures lawful { IsLawfulPipe (side_of pair.now.link false).queue }
 {
-    pair.link.queue(true).sent().len()
+    let own = pair.link.queue(false);
+    let _session = own.session();
+    Handled {
+        put: pair.link.queue(true).sent().len(),
+        taken: own.taken().len(),
+    }
 }
 
 // Of its queue's session the client took no more than was put.
@@ -149,12 +167,14 @@ fn took_no_more(pair: &Pair)
     let _session = pair.link.queue(false).session();
 }
 
-// A step did nothing only where it put nothing.
-fn moved_since(step: Step, before: usize, now: usize) -> Step
-    ensures { IsToldSince before now step result }
+// A step did nothing only where it put nothing and took nothing.
+fn moved_since(step: Step, before: Handled, now: Handled) -> Step
+    ensures { IsToldSince before.put now.put before.taken now.taken step result }
 {
     match step {
-        Step::Waits(Moved::Quiet) if before < now => Step::Waits(Moved::Moved),
+        Step::Waits(Moved::Quiet) if before.put < now.put || before.taken < now.taken => {
+            Step::Waits(Moved::Moved)
+        }
         told => told,
     }
 }

@@ -20,6 +20,7 @@ use Rattle.vcpu_run.proofs.Settling.{handed_are, settled_are}
 use Rattle.std.proofs.Common.{refl}
 use Rattle.vcpu_run.proofs.ToldAll.{shown_all}
 use Rattle.vcpu_run.proofs.ToldRows.{lines_are_explained, rows_are_copied, rows_are_shown}
+use Rattle.vcpu_run.proofs.OwnTold.{own_are}
 use Rattle.vcpu_run.proofs.PlainTold.{scripted_are}
 use Rattle.vcpu_run.proofs.gather.gather.Goals as goal
 
@@ -112,9 +113,13 @@ returns-clause-refusals c =
     (λ rows keeps ordered lawful partitions of_plan over told rests. refusals_are c.args.pairs.items c.args.scripts.items c.args.lan rows c.args.history.items c.args.grants.items c.args.copies.items partitions
     c.requires.pairs c.requires.scripts lawful.0 lawful.1 of_plan over told rests)
 
-pub returns-clause-plainly : goal.returns-clause-plainly
-returns-clause-plainly c =
+pub returns-clause-clients : goal.returns-clause-clients
+returns-clause-clients c =
     from_rows c.args.pairs.items c.args.scripts.items c.args.lan c.args.history.items c.args.grants.items c.args.copies.items c.rows_of.result _ _ c.rows_of.ensures.trace
     (ok_pair c.rows_of.result _ _ c.rows_of.ensures.queues c.rows_of.ensures.windows)
-    (λ rows keeps ordered lawful partitions of_plan told rests. scripted_are c.args.pairs.items c.args.scripts.items c.args.lan rows c.args.history.items c.args.grants.items c.args.copies.items partitions
-    c.requires.pairs c.requires.scripts lawful.0 lawful.1 of_plan told rests)
+    (λ rows keeps ordered lawful partitions of_plan told rests granted home units clients. record {
+      scripted = scripted_are c.args.pairs.items c.args.scripts.items c.args.lan rows c.args.history.items c.args.grants.items c.args.copies.items partitions
+          c.requires.pairs c.requires.scripts lawful.0 lawful.1 of_plan told rests granted home units clients.plain;
+      own = own_are c.args.pairs.items c.args.scripts.items c.args.lan rows c.args.history.items c.args.grants.items c.args.copies.items partitions
+          c.requires.pairs c.requires.scripts lawful.0 lawful.1 of_plan told rests granted home units clients.own;
+    })

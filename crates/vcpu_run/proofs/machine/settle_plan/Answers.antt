@@ -15,8 +15,8 @@ returns-in-Ok-clause-law g c =
     law_of_plan c.settle.result.trace c.args.plan.now
     (IfSome_then c.settle.result.trace c.settle.ensures.law (λ trace keeps. keeps c.args.plan.now.partitions c.in-Ok.ensures.of_plan))
     (IfSome_then c.settle.result.trace c.settle.ensures.grants (λ trace grants. grants c.args.plan.now.grant c.in-Ok.ensures.grants))
-    (IfSome_then c.settle.result.trace c.settle.ensures.plainly
-    (λ trace scripted. scripted c.args.plan.now.partitions c.in-Ok.ensures.of_plan c.args.plan.now.grant c.in-Ok.ensures.plainly))
+    (IfSome_then c.settle.result.trace c.settle.ensures.clients
+    (λ trace told. told c.args.plan.now.partitions c.in-Ok.ensures.of_plan c.args.plan.now.grant c.in-Ok.ensures.clients))
 
 pub returns-in-Ok-clause-disk : goal.returns-in-Ok-clause-disk
 returns-in-Ok-clause-disk g c =

@@ -7,7 +7,7 @@ use Rattle.vcpu_run.specs.Received.{AreAtRest}
 use Rattle.vcpu_run.specs.ScriptTold.{AreTold}
 use Rattle.vcpu_run.proofs.Told.{each_told, law_told, served_told, said_told}
 use Rattle.vcpu_run.specs.PlainPairs.{books_of}
-use Rattle.vcpu_run.specs.PlainRuns.{ArePlain}
+use Rattle.vcpu_run.specs.ClientRuns.{AreClients}
 use Rattle.vcpu_run.proofs.machine.trace_of.Goals as goal
 
 pub returns-in-Ok-clause-law : goal.returns-in-Ok-clause-law
@@ -32,12 +32,12 @@ returns-in-Ok-clause-shown c =
 pub returns-in-Ok-clause-grants : goal.returns-in-Ok-clause-grants
 returns-in-Ok-clause-grants c = said_told c.gather.result c.ok.result _ c.ok.ensures.value c.gather.ensures.grants
 
-pub returns-in-Ok-clause-plainly : goal.returns-in-Ok-clause-plainly
-returns-in-Ok-clause-plainly c =
+pub returns-in-Ok-clause-clients : goal.returns-in-Ok-clause-clients
+returns-in-Ok-clause-clients c =
     let rests = subst (λ r. OnOk r (AreAtRest c.args.copies.items c.args.grants.items c.args.history.items c.args.pairs.items c.args.scripts.items)) c.in-Ok.is c.requires.rests in
     let said = subst (λ r. OnOk r (AreTold c.args.pairs.items c.args.scripts.items)) c.in-Ok.is c.requires.said in
     said_told c.gather.result c.ok.result _ c.ok.ensures.value
     (each_told c.gather.result _ _
     (λ trace keeps partitions of_plan granted home units plain. keeps partitions of_plan said rests granted home units
-    (subst (λ r. OnOk r (ArePlain granted home (books_of units c.args.grants.items c.args.history.items) c.args.pairs.items c.args.scripts.items)) c.in-Ok.is plain))
-    c.gather.ensures.plainly)
+    (subst (λ r. OnOk r (AreClients granted home (books_of units c.args.grants.items c.args.history.items) c.args.pairs.items c.args.scripts.items)) c.in-Ok.is plain))
+    c.gather.ensures.clients)

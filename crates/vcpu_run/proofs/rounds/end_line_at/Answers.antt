@@ -9,6 +9,7 @@ use Rattle.vcpu_run.proofs.Held.{queues_turned}
 use Rattle.vcpu_run.proofs.RoundsTold.{told_ended}
 use Rattle.vcpu_run.proofs.Scripted.{run_one, script_turned}
 use Rattle.vcpu_run.proofs.PortTurns.{ports_ended}
+use Rattle.vcpu_run.proofs.OwnEnded.{ended_own_at}
 use Rattle.vcpu_run.proofs.PlainRuns.{ended_plainly}
 use Rattle.vcpu_run.proofs.rounds.end_line_at.Goals as goal
 
@@ -61,14 +62,18 @@ returns-clause-quiet c =
 pub returns-clause-elsewhere : goal.returns-clause-elsewhere
 returns-clause-elsewhere c = λ i apart. get_set_other c.args.scripts.now c.args.number i c.end_waiting.new.self apart
 
-pub returns-clause-plainly : goal.returns-clause-plainly
-returns-clause-plainly c =
+pub returns-clause-clients : goal.returns-clause-clients
+returns-clause-clients c =
     let scripts = c.args.scripts.now in
     let d = c.index-scripts-number.result in
     let old = slice_index_or scripts c.args.number d in
     let found = slice_get-get_or scripts c.args.number d c.requires in
     ok_then c.end_waiting.result _ _
     (λ kept granted home books pairs ports scripts_are none is.
-    ended_plainly granted home c.args.number books pairs scripts old c.end_waiting.new.self found c.end_waiting.ensures.rest
-    (λ u k quiet stands. kept granted u k pairs (scripts_are c.args.number old found).script_is quiet stands) (λ u k seat. none c.args.number u k old found seat refl) is)
-    c.end_waiting.ensures.plainly
+    record {
+      plain = ended_plainly granted home c.args.number books pairs scripts old c.end_waiting.new.self found c.end_waiting.ensures.rest
+          (λ u k quiet stands. (kept pairs (scripts_are c.args.number old found).script_is).plain granted u k quiet stands) (λ u k seat. none.plain c.args.number u k old found seat refl) is.plain;
+      own = ended_own_at granted home c.args.number books pairs scripts old c.end_waiting.new.self found c.end_waiting.ensures.rest
+          (kept pairs (scripts_are c.args.number old found).script_is).own (λ u k seat. none.own c.args.number u k old found seat refl) is.own;
+    })
+    c.end_waiting.ensures.clients

@@ -2,6 +2,7 @@ use Rattle.std.proofs.Common.{◌∙◌, arith, refl}
 use Rattle.vcpu_run.proofs.OpenRounds.{open_next}
 use Rattle.vcpu_run.proofs.RoundsTold.{out_next}
 use Rattle.vcpu_run.proofs.Scripted.{run_same, run_then}
+use Rattle.vcpu_run.proofs.OwnEnded.{awaits_own_next}
 use Rattle.vcpu_run.proofs.PlainRuns.{awaits_next}
 use Rattle.vcpu_run.proofs.rounds.end_lines.Goals as goal
 
@@ -11,7 +12,7 @@ loop-number-init c = record {
   run = run_same c.args.scripts.now;
   keeps = λ pairs ports is. record { credited = λ copies made are. are; said = λ out are. are; told = λ lan tells. tells; unfreed = λ opens keep. keep };
   rest = λ i more. refl;
-  plainly = λ granted home books pairs ports scripts_are none are. are;
+  clients = λ granted home books pairs ports scripts_are none are. are;
   same = λ is. refl;
 }
 
@@ -32,9 +33,12 @@ loop-number-preserved c =
             unfreed = λ opens keep. next.unfreed (open_next pairs c.args.scripts.now c.loop-number.scripts c.loop-number.number before.rest before.run opens) (first.unfreed opens keep);
           };
       rest = λ i more. after.elsewhere i (λ same. omega (arith, more, same)) ∙ before.rest i (omega (arith, more));
-      plainly = λ granted home books pairs ports scripts_are none are.
-          c.in_ok-turned.ensures.plainly granted home books pairs ports (before.scripts pairs ports scripts_are)
-          (awaits_next c.args.scripts.now c.loop-number.scripts c.loop-number.number before.rest none) (before.plainly granted home books pairs ports scripts_are none are);
+      clients = λ granted home books pairs ports scripts_are none are.
+          c.in_ok-turned.ensures.clients granted home books pairs ports (before.scripts pairs ports scripts_are)
+          (record {
+            plain = awaits_next c.args.scripts.now c.loop-number.scripts c.loop-number.number before.rest none.plain;
+            own = awaits_own_next c.args.scripts.now c.loop-number.scripts c.loop-number.number before.rest none.own;
+          }) (before.clients granted home books pairs ports scripts_are none are);
       same = λ is. c.in_ok-turned.ensures.quiet (c.either-moved.ensures.other is) ∙ before.same (c.either-moved.ensures.one is);
     }
 

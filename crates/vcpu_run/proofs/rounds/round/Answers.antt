@@ -1,5 +1,5 @@
 use Rattle.vcpu_run.proofs.Idling.{idle_all, idle_next, idle_none}
-use Rattle.std.proofs.Common.{arith}
+use Rattle.std.proofs.Common.{◌≤◌, length, arith}
 use Rattle.vcpu_run.specs.Rounds.{parts_at}
 use Rattle.block_server.specs.TurnStock.{stock_of}
 use Rattle.vcpu_run.specs.Served.{books_in}
@@ -7,6 +7,8 @@ use Rattle.vcpu_run.proofs.Going.{goes_same, goes_then, keeps_same, keeps_then, 
 use Rattle.vcpu_run.proofs.OpenRounds.{open_all, open_none}
 use Rattle.vcpu_run.proofs.RoundsTold.{out_all, out_none}
 use Rattle.vcpu_run.proofs.PortsResting.{ports_all, ports_next, ports_none}
+use Rattle.vcpu_run.proofs.OwnQuietRounds.{own_quiet_none, round_quiet_own}
+use Rattle.vcpu_run.proofs.OwnRuns.{round_own}
 use Rattle.vcpu_run.proofs.PlainRuns.{quiet_none, round_plainly, round_quietly}
 use Rattle.vcpu_run.proofs.rounds.round.Goals as goal
 
@@ -26,8 +28,11 @@ loop-number-init g c =
       unfreed = λ keep. keep;
       opened = λ is linked. open_none pairs scripts;
       idle = λ is are over. idle_none server.units.items pairs scripts;
-      plainly = λ granted are. are;
-      quietly = λ is granted are. quiet_none server.partition (books_in server) scripts;
+      clients = λ granted are. are;
+      quietly = λ is linked granted are. record {
+        plain = quiet_none server.partition (books_in server) scripts;
+        own = own_quiet_none server.partition server.units.items pairs scripts;
+      };
       taken = λ is over. ports_none lan scripts;
     }
 
@@ -54,9 +59,10 @@ loop-number-preserved g c =
           idle_next c.loop-number.number old.units.items new.units.items c.loop-number.pairs c.turn_at.new.pairs c.loop-number.scripts c.turn_at.new.scripts
           (omega (arith, before.stays.run.count, after.stays.run.count, c.loop-number-test.true)) after.elsewhere
           ((quiet (c.either-moved.ensures.other is)).idle (before.keeps.linked are)) (before.idle (c.either-moved.ensures.one is) are);
-      plainly = λ granted are. c.in_ok-turned.ensures.plainly granted (before.plainly granted are);
-      quietly = λ is granted are.
-          (quiet (c.either-moved.ensures.other is)).quietly granted (before.plainly granted are) (before.quietly (c.either-moved.ensures.one is) granted are);
+      clients = λ granted are. c.in_ok-turned.ensures.clients granted (before.clients granted are);
+      quietly = λ is linked granted are.
+          (quiet (c.either-moved.ensures.other is)).quietly (before.keeps.linked linked) granted (before.clients granted are)
+          (before.quietly (c.either-moved.ensures.one is) linked granted are);
       taken = λ is.
           ports_next c.loop-number.number c.loop-number.lan c.turn_at.new.lan c.loop-number.scripts c.turn_at.new.scripts
           (omega (arith, before.stays.run.count, after.stays.run.count, c.loop-number-test.true)) after.elsewhere (quiet (c.either-moved.ensures.other is)).ports
@@ -85,12 +91,20 @@ returns-clause-quiet g c = λ is.
         idle = λ are. idle_all c.loop-number.number server.units.items c.loop-number.pairs c.loop-number.scripts (omega (arith, count, c.loop-number-test.false)) (all.idle is are);
         ports = ports_all c.loop-number.number c.loop-number.lan c.loop-number.scripts (omega (arith, count, c.loop-number-test.false)) (all.taken is);
       };
-      quietly = λ granted are.
-          round_quietly c.loop-number.server.partition c.loop-number.number (books_in server) c.loop-number.scripts (omega (arith, count, c.loop-number-test.false)) (all.quietly is granted are);
+      quietly = λ linked granted are.
+          let rest = all.quietly is linked granted are in
+          record {
+            plain = round_quietly server.partition c.loop-number.number (books_in server) c.loop-number.scripts (omega (arith, count, c.loop-number-test.false)) rest.plain;
+            own = round_quiet_own server.partition c.loop-number.number server.units.items c.loop-number.pairs c.loop-number.scripts (omega (arith, count, c.loop-number-test.false)) rest.own;
+          };
     }
 
-pub returns-clause-plainly : goal.returns-clause-plainly
-returns-clause-plainly g c = λ granted are.
-    let count = c.loop-number.invariant.stays.run.count in
-    round_plainly granted c.loop-number.server.partition c.loop-number.number (books_in c.loop-number.server) c.loop-number.pairs
-    c.loop-number.scripts (omega (arith, count, c.loop-number-test.false)) (c.loop-number.invariant.plainly granted are)
+pub returns-clause-clients : goal.returns-clause-clients
+returns-clause-clients g c = λ granted are.
+    let all = c.loop-number.invariant.clients granted are in
+    let server = c.loop-number.server in
+    let done : length c.loop-number.scripts ≤ c.loop-number.number = omega (arith, c.loop-number.invariant.stays.run.count, c.loop-number-test.false) in
+    record {
+      plain = round_plainly granted server.partition c.loop-number.number (books_in server) c.loop-number.pairs c.loop-number.scripts done all.plain;
+      own = round_own granted server.partition c.loop-number.number (books_in server) c.loop-number.pairs c.loop-number.scripts done all.own;
+    }

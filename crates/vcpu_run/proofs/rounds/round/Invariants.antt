@@ -1,11 +1,11 @@
 use Rattle.std.proofs.Common.{◌≡◌, ℕ, vec_len}
 use Rattle.vio_num.specs.declared.hypervisor.Moved.TheVariants.{Quiet}
+use Rattle.vcpu_run.specs.ClientRuns.{AreClients, AreClientsQuietTo, AreClientsTo}
 use Rattle.vcpu_run.specs.Holding.{IsOpenUpTo, KeepQueues}
 use Rattle.vcpu_run.specs.Links.{AreIdleTo, AreLinked, AreOverTo}
 use Rattle.vcpu_run.specs.ScriptTold.{AreOutTo, AreTold}
 use Rattle.vcpu_run.specs.Machines.{IsMachine}
 use Rattle.vcpu_run.specs.PortsRest.{AreTakenTo}
-use Rattle.vcpu_run.specs.PlainRuns.{ArePlain, ArePlainTo, ArePlainlyQuietTo}
 use Rattle.vcpu_run.specs.Rounds.{KeepsParts, PartsStay, parts_at}
 use Rattle.block_server.specs.TurnStock.{stock_of}
 use Rattle.vcpu_run.specs.Served.{AllServed, ServesOn, books_in}
@@ -22,9 +22,10 @@ invariant-loop-number g l = record {
   unfreed : KeepQueues l.initial.pairs l.initial.scripts → KeepQueues l.pairs l.scripts;
   opened : l.moved ≡ Quiet → AreLinked l.initial.server.units.items l.initial.pairs → IsOpenUpTo l.number l.pairs l.scripts;
   idle : l.moved ≡ Quiet → AreLinked l.initial.server.units.items l.initial.pairs → AreOverTo l.number l.scripts → AreIdleTo l.number l.server.units.items l.pairs l.scripts;
-  plainly : (granted : ℕ) → ArePlain granted l.initial.server.partition (books_in l.initial.server) l.initial.pairs l.initial.scripts
-      → ArePlainTo granted l.server.partition l.number (books_in l.server) l.pairs l.scripts;
-  quietly : l.moved ≡ Quiet → (granted : ℕ) → ArePlain granted l.initial.server.partition (books_in l.initial.server) l.initial.pairs l.initial.scripts
-      → ArePlainlyQuietTo l.server.partition l.number (books_in l.server) l.scripts;
+  clients : (granted : ℕ) → AreClients granted l.initial.server.partition (books_in l.initial.server) l.initial.pairs l.initial.scripts
+      → AreClientsTo granted l.server.partition l.number (books_in l.server) l.pairs l.scripts;
+  quietly : l.moved ≡ Quiet → AreLinked l.initial.server.units.items l.initial.pairs → (granted : ℕ)
+      → AreClients granted l.initial.server.partition (books_in l.initial.server) l.initial.pairs l.initial.scripts
+      → AreClientsQuietTo l.server.partition l.number (books_in l.server) l.pairs l.scripts;
   taken : l.moved ≡ Quiet → AreOverTo l.number l.scripts → AreTakenTo l.number l.lan l.scripts;
 }

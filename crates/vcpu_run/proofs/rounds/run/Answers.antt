@@ -15,7 +15,7 @@ loop-round-init g c =
       stays = parts_same pairs c.args.scripts.now c.args.lan.now;
       keeps = keeps_same (parts_at server pairs c.args.scripts.now c.args.lan.now);
       unfreed = λ linked keep. keep;
-      plainly = λ granted are. are;
+      clients = λ linked granted are. are;
     }
 
 pub loop-round-preserved : goal.loop-round-preserved
@@ -31,7 +31,7 @@ loop-round-preserved g c =
       keeps = keeps_then (parts_at c.args.server.now c.args.pairs.now c.args.scripts.now c.args.lan.now) (parts_at c.loop-round.server c.loop-round.pairs c.loop-round.scripts c.loop-round.lan)
           (parts_at c.step.new.server c.step.new.pairs c.step.new.scripts c.step.new.lan) c.loop-round.invariant.keeps c.in_ok-moved.ensures.keeps;
       unfreed = λ linked keep. c.in_ok-moved.ensures.unfreed (before.keeps.linked linked) (before.unfreed linked keep);
-      plainly = λ granted are. c.in_ok-moved.ensures.plainly granted (before.plainly granted are);
+      clients = λ linked granted are. c.in_ok-moved.ensures.clients (before.keeps.linked linked) granted (before.clients linked granted are);
     }
 
 pub returns-in_err-moved-clause-goes : goal.returns-in_err-moved-clause-goes
@@ -76,5 +76,6 @@ pub returns-then-is_end-clause-unfreed : goal.returns-then-is_end-clause-unfreed
 returns-then-is_end-clause-unfreed g c = λ linked keep.
     c.in_ok-moved.ensures.unfreed (c.loop-round.invariant.keeps.linked linked) (c.loop-round.invariant.unfreed linked keep)
 
-pub returns-then-is_end-clause-plainly : goal.returns-then-is_end-clause-plainly
-returns-then-is_end-clause-plainly g c = λ granted are. c.in_ok-moved.ensures.plainly granted (c.loop-round.invariant.plainly granted are)
+pub returns-then-is_end-clause-clients : goal.returns-then-is_end-clause-clients
+returns-then-is_end-clause-clients g c = λ linked granted are.
+    c.in_ok-moved.ensures.clients (c.loop-round.invariant.keeps.linked linked) granted (c.loop-round.invariant.clients linked granted are)

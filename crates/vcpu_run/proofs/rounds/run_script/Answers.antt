@@ -1,5 +1,5 @@
 use Rattle.vcpu_run.proofs.Waiting.{linked_driven}
-use Rattle.vcpu_run.proofs.Going.{if_five}
+use Rattle.vcpu_run.proofs.Going.{if_six}
 use Rattle.vcpu_run.proofs.Idling.{set_rests}
 use Rattle.vcpu_run.proofs.Driving.{get_set_other}
 use Rattle.std.proofs.Common.{◌≡◌, IsSomeAnd, false, slice_index_or, refl, subst}
@@ -16,6 +16,11 @@ use Rattle.vcpu_run.proofs.OpenRounds.{open_turned}
 use Rattle.vcpu_run.proofs.PortTurns.{ports_turned}
 use Rattle.vcpu_run.proofs.HeardTurns.{heard_driven, tells_driven}
 use Rattle.vcpu_run.proofs.PortsResting.{set_ports}
+use Rattle.vcpu_run.proofs.OwnClauses.{ok_if}
+use Rattle.vcpu_run.proofs.OwnQuietRounds.{quieted_own}
+use Rattle.vcpu_run.proofs.OwnQuieted.{quiets_own}
+use Rattle.vcpu_run.proofs.OwnRuns.{turned_own_at}
+use Rattle.vcpu_run.proofs.OwnTurned.{turned_own}
 use Rattle.vcpu_run.proofs.PlainRuns.{quieted_plainly, turned_plainly}
 use Rattle.vcpu_run.proofs.rounds.run_script.Goals as goal
 
@@ -106,17 +111,22 @@ returns-clause-said c =
     told_turned c.args.pairs.now c.turn.new.pairs c.args.lan.now.seats scripts c.args.number old c.turn.new.self found c.requires.scripts c.turn.ensures.others c.turn.ensures.rest kept told)
     c.turn.ensures.said
 
-pub returns-clause-plainly : goal.returns-clause-plainly
-returns-clause-plainly c =
+pub returns-clause-clients : goal.returns-clause-clients
+returns-clause-clients c =
     let scripts = c.args.scripts.now in
     let d = c.index-scripts-number.result in
     let old = slice_index_or scripts c.args.number d in
     let found = slice_get-get_or scripts c.args.number d c.requires.there in
-    ok_then c.turn.result _ _
-    (λ turns granted home books other is.
-    turned_plainly granted home c.args.number books c.args.pairs.now c.turn.new.pairs c.args.lan.now.seats scripts old c.turn.new.self found c.requires.scripts c.turn.ensures.driven
-    c.turn.ensures.others c.turn.ensures.rest (subst (λ o. IsSomeAnd o (λ script. are_servers script.seats.items ≡ false)) found other) turns is)
-    c.turn.ensures.plainly
+    ok_if c.turn.result _ _ _
+    (λ moved turns acts granted home books other is.
+    let plain = subst (λ o. IsSomeAnd o (λ script. are_servers script.seats.items ≡ false)) found other in
+    record {
+      plain = turned_plainly granted home c.args.number books c.args.pairs.now c.turn.new.pairs c.args.lan.now.seats scripts old c.turn.new.self found c.requires.scripts c.turn.ensures.driven
+          c.turn.ensures.others c.turn.ensures.rest plain turns is.plain;
+      own = turned_own_at granted home c.args.number books c.args.pairs.now c.turn.new.pairs c.args.lan.now.seats scripts old c.turn.new.self found c.requires.scripts
+          c.turn.ensures.others c.turn.ensures.rest plain (turned_own c.args.pairs.now c.turn.new.pairs old c.turn.new.self (c.requires.scripts c.args.number old found).script_is c.turn.ensures.rest moved acts) is.own;
+    })
+    c.turn.ensures.plainly c.turn.ensures.acts
 
 pub returns-clause-quiet : goal.returns-clause-quiet
 returns-clause-quiet c =
@@ -129,8 +139,8 @@ returns-clause-quiet c =
     let new = c.turn.new.self in
     let found = slice_get-get_or scripts c.args.number d c.requires.there in
     let rest = c.turn.ensures.rest in
-    if_five c.turn.result _ _ _ _ _ _
-    (λ moved held out rests ports quiets is. record {
+    if_six c.turn.result _ _ _ _ _ _ _
+    (λ moved held out rests ports quiets acts is. record {
       opened = λ plain before.
           open_turned pairs pairs' seats scripts c.args.number old new found c.requires.scripts c.turn.ensures.others rest
           (subst (λ o. IsSomeAnd o (λ script. are_servers script.seats.items ≡ false)) found plain) (held is) before;
@@ -138,8 +148,12 @@ returns-clause-quiet c =
       idle = λ over. set_rests scripts c.args.number old new old.seats.items pairs pairs' c.requires.there (rw rest.seats refl) (rests is) over;
       ports = λ over. set_ports scripts c.args.number new old.partition old.seats.items c.args.lan.now c.turn.new.lan c.requires.there
           (rw rest.partition refl) (rw rest.seats refl) (ports is) over;
-      quietly = λ granted home books other plain quiet.
-          quieted_plainly granted home c.args.number books pairs pairs' scripts old new found rest
-          (subst (λ o. IsSomeAnd o (λ script. are_servers script.seats.items ≡ false)) found other) (quiets is) plain quiet;
+      quietly = λ granted home books other clients quiet.
+          let plain = subst (λ o. IsSomeAnd o (λ script. are_servers script.seats.items ≡ false)) found other in
+          record {
+            plain = quieted_plainly granted home c.args.number books pairs pairs' scripts old new found rest plain (quiets is) clients.plain quiet.plain;
+            own = quieted_own granted home c.args.number books pairs pairs' seats scripts old new found c.requires.scripts c.turn.ensures.others rest plain
+                (quiets_own moved pairs pairs' old new is rest acts) clients.own quiet.own;
+          };
     })
-    c.turn.ensures.opened c.turn.ensures.out c.turn.ensures.quiet c.turn.ensures.ports c.turn.ensures.quiets
+    c.turn.ensures.opened c.turn.ensures.out c.turn.ensures.quiet c.turn.ensures.ports c.turn.ensures.quiets c.turn.ensures.acts

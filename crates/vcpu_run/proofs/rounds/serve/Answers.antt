@@ -3,6 +3,7 @@ use Rattle.std.proofs.Common.{arith}
 use Rattle.block_server.specs.TurnStock.{stock_of}
 use Rattle.vcpu_run.specs.Served.{books_in}
 use Rattle.vcpu_run.proofs.Going.{goes_same, goes_then, spares_same, spares_then}
+use Rattle.vcpu_run.proofs.OwnRounds.{served_own_all, served_own_next, served_own_none}
 use Rattle.vcpu_run.proofs.PlainRounds.{idled_all, idled_next, idled_none, served_all, served_next, served_none}
 use Rattle.vcpu_run.proofs.rounds.serve.Goals as goal
 
@@ -18,6 +19,7 @@ loop-unit-init g c =
       linked = λ are. are;
       wait = λ is are k link less found. absurd (omega (arith, less));
       plainly = served_none server.partition (books_in server) pairs;
+      own = served_own_none server.partition (books_in server) pairs;
       idled = λ is. idled_none server.partition (books_in server) pairs;
     }
 
@@ -41,7 +43,11 @@ loop-unit-preserved g c =
       plainly =
           served_next c.loop-unit.unit first.partition old.partition (books_in first) (books_in old) (books_in new)
           c.args.pairs.now c.loop-unit.pairs c.serve_at.new.pairs before.goes.lasts.partition before.plainly
-          c.in_ok-turned.ensures.plainly (λ k apart. (after.aside k apart).books) (λ k apart. (after.aside k apart).pair);
+          c.in_ok-turned.ensures.clients.plain (λ k apart. (after.aside k apart).books) (λ k apart. (after.aside k apart).pair);
+      own =
+          served_own_next c.loop-unit.unit first.partition old.partition (books_in first) (books_in old) (books_in new)
+          c.args.pairs.now c.loop-unit.pairs c.serve_at.new.pairs before.goes.lasts.partition before.own
+          c.in_ok-turned.ensures.clients.own (λ k apart. (after.aside k apart).books) (λ k apart. (after.aside k apart).pair);
       idled = λ is.
           idled_next c.loop-unit.unit first.partition old.partition (books_in first) (books_in old) (books_in new)
           c.args.pairs.now c.loop-unit.pairs before.goes.lasts.partition before.plainly (before.idled (c.either-moved.ensures.one is))
@@ -53,11 +59,15 @@ returns-clause-wait g c = λ is are.
     let count = c.loop-unit.invariant.spares.stay.count in
     serves_all c.loop-unit.pairs c.loop-unit.server.units.items c.loop-unit.unit (omega (arith, count, c.loop-unit-test.false)) (c.loop-unit.invariant.wait is are)
 
-pub returns-clause-plainly : goal.returns-clause-plainly
-returns-clause-plainly g c =
+pub returns-clause-clients : goal.returns-clause-clients
+returns-clause-clients g c = λ k.
     let count = c.loop-unit.invariant.spares.stay.count in
-    served_all c.loop-unit.unit c.args.server.now.partition (books_in c.args.server.now) (books_in c.loop-unit.server)
-    c.args.pairs.now c.loop-unit.pairs (omega (arith, count, c.loop-unit-test.false)) c.loop-unit.invariant.plainly
+    record {
+      plain = served_all c.loop-unit.unit c.args.server.now.partition (books_in c.args.server.now) (books_in c.loop-unit.server)
+          c.args.pairs.now c.loop-unit.pairs (omega (arith, count, c.loop-unit-test.false)) c.loop-unit.invariant.plainly k;
+      own = served_own_all c.loop-unit.unit c.args.server.now.partition (books_in c.args.server.now) (books_in c.loop-unit.server)
+          c.args.pairs.now c.loop-unit.pairs (omega (arith, count, c.loop-unit-test.false)) c.loop-unit.invariant.own k;
+    }
 
 pub returns-clause-idles : goal.returns-clause-idles
 returns-clause-idles g c = λ is.

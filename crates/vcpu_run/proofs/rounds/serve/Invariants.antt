@@ -4,6 +4,7 @@ use Rattle.vcpu_run.specs.Links.{AreLinked, LinkState, ServerWaits, links_of}
 use Rattle.vcpu_run.specs.Machines.{IsServing}
 use Rattle.block_server.specs.TurnStock.{stock_of}
 use Rattle.vcpu_run.specs.Served.{AllServed, ServesOn, SparesClients, books_in}
+use Rattle.vcpu_run.proofs.OwnRounds.{ServedOwnTo}
 use Rattle.vcpu_run.proofs.PlainRounds.{IdledTo, ServedTo}
 use Rattle.vcpu_run.proofs.rounds.serve.Given as goal
 
@@ -17,5 +18,6 @@ invariant-loop-unit g l = record {
   wait : l.moved ≡ Quiet → AreLinked l.initial.server.units.items l.initial.pairs
       → (k : ℕ) (link : LinkState) → k < l.unit → slice_get (links_of l.pairs) k ≡ Some link → ServerWaits (slice_get l.server.units.items k) link;
   plainly : ServedTo l.unit l.initial.server.partition (books_in l.initial.server) (books_in l.server) l.initial.pairs l.pairs;
+  own : ServedOwnTo l.unit l.initial.server.partition (books_in l.initial.server) (books_in l.server) l.initial.pairs l.pairs;
   idled : l.moved ≡ Quiet → IdledTo l.unit l.initial.server.partition (books_in l.initial.server) (books_in l.server) l.initial.pairs;
 }

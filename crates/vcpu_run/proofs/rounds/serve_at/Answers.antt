@@ -20,8 +20,9 @@ use Rattle.vcpu_run.proofs.DropsKept.{more_served}
 use Rattle.vcpu_run.proofs.Listed.{each_on, each_set}
 use Rattle.vcpu_run.proofs.PairNames.{apart_stays}
 use Rattle.vcpu_run.proofs.Unfreed.{frees_set}
-use Rattle.vcpu_run.specs.PlainPairs.{ServesPlainly, ServesPlainlyAt}
+use Rattle.vcpu_run.specs.ClientRuns.{ServesClients, ServesClientsAt}
 use Rattle.vcpu_run.specs.Served.{books_in}
+use Rattle.vcpu_run.proofs.OwnRounds.{served_own_at}
 use Rattle.vcpu_run.proofs.PlainRounds.{idled_at, served_at}
 use Rattle.vcpu_run.proofs.rounds.serve_at.Goals as goal
 
@@ -168,19 +169,23 @@ returns-clause-aside g c = λ k apart.
     let beside = c.serve.ensures.beside k apart in
     record { unit = beside.unit; pair = get_set_other c.args.pairs.now c.args.unit k c.serve.new.self apart; books = beside.books }
 
-pub returns-clause-plainly : goal.returns-clause-plainly
-returns-clause-plainly g c =
+pub returns-clause-clients : goal.returns-clause-clients
+returns-clause-clients g c =
     let server = c.args.server.now in
     let server' = c.serve.new.server in
     let pairs = c.args.pairs.now in
     let books = books_in server in
     let books' = books_in server' in
     let old = slice_index_or pairs c.args.unit c.index-pairs-unit.result in
-    ok_then c.serve.result (ServesPlainly server.partition books books' c.args.unit old c.serve.new.self)
-    (ServesPlainlyAt server.partition books books' pairs (slice_set pairs c.args.unit c.serve.new.self) c.args.unit)
-    (served_at server.partition books books' pairs c.args.unit old c.serve.new.self c.requires.there
-    (slice_get-get_or pairs c.args.unit c.index-pairs-unit.result c.requires.there))
-    c.serve.ensures.plainly
+    ok_then c.serve.result (ServesClients server.partition books books' c.args.unit old c.serve.new.self)
+    (ServesClientsAt server.partition books books' pairs (slice_set pairs c.args.unit c.serve.new.self) c.args.unit)
+    (λ serves.
+    let found = slice_get-get_or pairs c.args.unit c.index-pairs-unit.result c.requires.there in
+    record {
+      plain = served_at server.partition books books' pairs c.args.unit old c.serve.new.self c.requires.there found serves.plain;
+      own = served_own_at server.partition books books' pairs c.args.unit old c.serve.new.self c.requires.there found serves.own;
+    })
+    c.serve.ensures.clients
 
 pub returns-clause-idles : goal.returns-clause-idles
 returns-clause-idles g c =

@@ -60,10 +60,10 @@ returns-in-Quiet-clause-unfreed g c =
     ((c.in_ok-round.ensures.quiet c.in-Quiet.is).opened linked) (c.in_ok-round.ensures.unfreed keep))
     c.end_lines.ensures.keeps
 
-pub returns-in-Quiet-clause-plainly : goal.returns-in-Quiet-clause-plainly
-returns-in-Quiet-clause-plainly g c =
+pub returns-in-Quiet-clause-clients : goal.returns-in-Quiet-clause-clients
+returns-in-Quiet-clause-clients g c =
     ok_then c.end_lines.result _ _
-    (λ kept granted are.
+    (λ kept linked granted are.
     kept granted c.round.new.server.partition (books_in c.round.new.server) c.round.new.pairs c.round.new.lan.seats c.round.ensures.machine.scripts_are
-    ((c.in_ok-round.ensures.quiet c.in-Quiet.is).quietly granted are) (c.in_ok-round.ensures.plainly granted are))
-    c.end_lines.ensures.plainly
+    ((c.in_ok-round.ensures.quiet c.in-Quiet.is).quietly linked granted are) (c.in_ok-round.ensures.clients granted are))
+    c.end_lines.ensures.clients

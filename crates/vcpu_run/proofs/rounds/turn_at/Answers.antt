@@ -1,7 +1,7 @@
 use Rattle.vcpu_run.specs.CopiesCounted.{copies_at}
 use Rattle.vcpu_run.proofs.CopiesMade.{all_made, begins_same, rows_grow}
 use Rattle.vcpu_run.proofs.Elsewhere.{credits_as, credits_served, ok_then}
-use Rattle.vcpu_run.proofs.Resting.{ok_both, ok_more}
+use Rattle.vcpu_run.proofs.Resting.{ok_more}
 use Rattle.vcpu_run.proofs.Idling.{rests_clients, rests_servers}
 use Rattle.std.proofs.lemmas.Option.{slice_get-get_or}
 use Rattle.std.proofs.Common.{◌≡◌, ◌+◌, IsSomeAnd, false, true, refl, subst, vec_len, ◌∙◌, slice_get, slice_index_or, sym}
@@ -17,7 +17,10 @@ use Rattle.vcpu_run.proofs.PortsResting.{servers_rest}
 use Rattle.block_server.specs.TurnStock.{stock_of}
 use Rattle.vcpu_run.specs.Served.{books_in}
 use Rattle.vcpu_run.proofs.Going.{goes_told, ok_three}
-use Rattle.vcpu_run.specs.PlainRuns.{ArePlainTo, ArePlainlyQuietTo}
+use Rattle.vcpu_run.specs.ClientRuns.{AreClientsQuietTo, AreClientsTo}
+use Rattle.vcpu_run.proofs.OwnClauses.{if_two}
+use Rattle.vcpu_run.proofs.OwnQuietRounds.{idled_own}
+use Rattle.vcpu_run.proofs.OwnRuns.{served_own}
 use Rattle.vcpu_run.proofs.PlainRuns.{idled_plainly, served_plainly}
 use Rattle.vcpu_run.proofs.rounds.turn_at.Goals as goal
 
@@ -99,17 +102,21 @@ returns-then-is_of_servers-clause-quiet g c =
     let old = slice_index_or scripts c.args.number c.index-scripts-number.result in
     let found = slice_get-get_or scripts c.args.number c.index-scripts-number.result c.requires.there in
     let serves : are_servers old.seats.items ≡ true = sym c.is_of_servers.ensures ∙ c.if-is_of_servers.true in
-    ok_both c.serve.result _ _ _
-    (λ moved wait idles is. record {
+    if_two c.serve.result _ _ _ _
+    (λ moved told wait idles is. record {
       opened = λ linked before. open_served server'.units.items pairs pairs' scripts c.args.number old found serves clients (wait is linked) before;
       out = λ told out. out_served pairs pairs' scripts c.args.number old found serves clients out;
       idle = λ are over. rests_servers scripts c.args.number old server.units.items server'.units.items pairs pairs' found serves (wait is are);
       ports = λ over. servers_rest scripts c.args.number old c.args.lan.now found serves;
-      quietly = λ granted plain quiet.
-          subst (λ home. ArePlainlyQuietTo home (c.args.number + 1) (books_in server') scripts) (sym c.serve.ensures.goes.lasts.partition)
-          (idled_plainly granted server.partition c.args.number (books_in server) (books_in server') pairs scripts old found serves (idles is) plain quiet);
+      quietly = λ linked granted are quiet.
+          subst (λ home. AreClientsQuietTo home (c.args.number + 1) (books_in server') pairs' scripts) (sym c.serve.ensures.goes.lasts.partition)
+          (record {
+            plain = idled_plainly granted server.partition c.args.number (books_in server) (books_in server') pairs scripts old found serves (idles is) are.plain quiet.plain;
+            own = idled_own granted server.partition c.args.number (books_in server) (books_in server') pairs pairs' scripts old found serves (wait is linked)
+                (served_own granted server.partition c.args.number (books_in server) (books_in server') pairs pairs' scripts (λ k. (told k).own) are.own) quiet.own;
+          });
     })
-    c.serve.ensures.wait c.serve.ensures.idles
+    c.serve.ensures.clients c.serve.ensures.wait c.serve.ensures.idles
 
 pub returns-else-is_of_servers-clause-quiet : goal.returns-else-is_of_servers-clause-quiet
 returns-else-is_of_servers-clause-quiet g c =
@@ -127,7 +134,7 @@ returns-else-is_of_servers-clause-quiet g c =
       idle = λ are over. rests_clients scripts c.run_script.new.scripts c.args.number old server.units.items c.args.pairs.now c.run_script.new.pairs
           c.run_script.ensures.stays.run found plain ((quiet is).idle over);
       ports = (quiet is).ports;
-      quietly = λ granted are rests. (quiet is).quietly granted server.partition (books_in server) other are rests;
+      quietly = λ linked granted are rests. (quiet is).quietly granted server.partition (books_in server) other are rests;
     })
     c.run_script.ensures.quiet
 
@@ -139,17 +146,21 @@ pub returns-else-is_of_servers-clause-goes : goal.returns-else-is_of_servers-cla
 returns-else-is_of_servers-clause-goes g c =
     goes_told (stock_of c.args.server.now) c.args.pairs.now c.run_script.new.pairs (c.run_script.ensures.pairs.tells c.args.server.now.copies.items)
 
-pub returns-then-is_of_servers-clause-plainly : goal.returns-then-is_of_servers-clause-plainly
-returns-then-is_of_servers-clause-plainly g c =
+pub returns-then-is_of_servers-clause-clients : goal.returns-then-is_of_servers-clause-clients
+returns-then-is_of_servers-clause-clients g c =
     ok_then c.serve.result _ _
     (λ serves granted is.
-    subst (λ home. ArePlainTo granted home (c.args.number + 1) (books_in c.serve.new.server) c.serve.new.pairs c.args.scripts.now) (sym c.serve.ensures.goes.lasts.partition)
-    (served_plainly granted c.args.server.now.partition c.args.number (books_in c.args.server.now)
-    (books_in c.serve.new.server) c.args.pairs.now c.serve.new.pairs c.args.scripts.now serves c.serve.ensures.spares.clients is))
-    c.serve.ensures.plainly
+    subst (λ home. AreClientsTo granted home (c.args.number + 1) (books_in c.serve.new.server) c.serve.new.pairs c.args.scripts.now) (sym c.serve.ensures.goes.lasts.partition)
+    (record {
+      plain = served_plainly granted c.args.server.now.partition c.args.number (books_in c.args.server.now)
+          (books_in c.serve.new.server) c.args.pairs.now c.serve.new.pairs c.args.scripts.now (λ k. (serves k).plain) c.serve.ensures.spares.clients is.plain;
+      own = served_own granted c.args.server.now.partition c.args.number (books_in c.args.server.now)
+          (books_in c.serve.new.server) c.args.pairs.now c.serve.new.pairs c.args.scripts.now (λ k. (serves k).own) is.own;
+    }))
+    c.serve.ensures.clients
 
-pub returns-else-is_of_servers-clause-plainly : goal.returns-else-is_of_servers-clause-plainly
-returns-else-is_of_servers-clause-plainly g c =
+pub returns-else-is_of_servers-clause-clients : goal.returns-else-is_of_servers-clause-clients
+returns-else-is_of_servers-clause-clients g c =
     let scripts = c.args.scripts.now in
     let d = c.index-scripts-number.result in
     let old = slice_index_or scripts c.args.number d in
@@ -158,4 +169,4 @@ returns-else-is_of_servers-clause-plainly g c =
     (λ turns granted is.
     turns granted c.args.server.now.partition (books_in c.args.server.now)
     (subst (λ o. IsSomeAnd o (λ script. are_servers script.seats.items ≡ false)) (sym (slice_get-get_or scripts c.args.number d c.requires.there)) plain) is)
-    c.run_script.ensures.plainly
+    c.run_script.ensures.clients

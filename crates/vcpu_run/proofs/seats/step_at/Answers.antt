@@ -58,4 +58,4 @@ returns-clause-plainly c =
 pub returns-clause-acts : goal.returns-clause-acts
 returns-clause-acts c =
     seat_acts c.args.line.now c.args.progress.now c.step.new.progress c.step.result c.args.pairs.now c.args.pair _ c.step.new.pair
-    (slice_get-get_or c.args.pairs.now c.args.pair _ c.requires.there) c.step.ensures.acts
+    (slice_get-get_or c.args.pairs.now c.args.pair _ c.requires.there) c.step.ensures.acts c.step.ensures.still c.step.ensures.lawful

@@ -106,4 +106,4 @@ pub returns-clause-acts : goal.returns-clause-acts
 returns-clause-acts g c =
     command_acts c.args.line c.args.op.now (acting c.args.self.now g.C.CrqEnd.is_shared (g.C.CrqEnd.state c.args.crq.now.end) g.O.WindowPort.is_shared (g.O.WindowPort.state c.args.own.now))
     (acting (record c.args.self.now { client = c.submit.new.self }) g.C.CrqEnd.is_shared (g.C.CrqEnd.state c.submit.new.crq.end) g.O.WindowPort.is_shared (g.O.WindowPort.state c.submit.new.own))
-    c.submit.result c.sent.result refl c.sent.ensures.sent c.sent.ensures.why c.submit.ensures.refused c.submit.ensures.sent c.submit.ensures.why
+    c.submit.result c.sent.result refl c.sent.ensures.sent c.sent.ensures.why c.submit.ensures.refused c.submit.ensures.sent c.submit.ensures.why c.submit.ensures.crq_rest c.submit.ensures.own_rest c.sent.ensures.memory

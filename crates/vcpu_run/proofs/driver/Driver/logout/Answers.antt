@@ -98,4 +98,4 @@ pub returns-clause-acts : goal.returns-clause-acts
 returns-clause-acts g c =
     logout_acts c.args.line (acting c.args.self.now g.C.CrqEnd.is_shared (g.C.CrqEnd.state c.args.crq.now.end) g.O.WindowPort.is_shared (g.O.WindowPort.state c.args.own.now))
     (acting (record c.args.self.now { client = c.logout.new.self }) g.C.CrqEnd.is_shared (g.C.CrqEnd.state c.logout.new.crq.end) g.O.WindowPort.is_shared (g.O.WindowPort.state c.logout.new.own))
-    c.logout.result c.sent.result refl c.sent.ensures.sent c.sent.ensures.why c.logout.ensures.refused c.logout.ensures.sent c.logout.ensures.why c.logout.ensures.same
+    c.logout.result c.sent.result refl c.sent.ensures.sent c.sent.ensures.why c.logout.ensures.refused c.logout.ensures.sent c.logout.ensures.why c.logout.ensures.same c.logout.ensures.crq_rest c.logout.ensures.own_rest c.sent.ensures.memory

@@ -223,7 +223,7 @@ returns-then-eq-clause-acts g c =
 pub returns-in-Success-clause-acts : goal.returns-in-Success-clause-acts
 returns-in-Success-clause-acts g c =
     frees_acts c.args.line c.args.progress.now (acting c.args.self.now g.C.CrqEnd.is_shared (g.C.CrqEnd.state c.args.crq.now.end) g.O.WindowPort.is_shared (g.O.WindowPort.state c.args.own.now))
-    (acting c.freed.new.self g.C.CrqEnd.is_shared (g.C.CrqEnd.state c.free.new.self.end) g.O.WindowPort.is_shared (g.O.WindowPort.state c.args.own.now)) (g.C.CrqEnd.state c.reserve.new.self.end) Moved (unfreed c.args.progress.now (search rules))
+    (acting c.freed.new.self g.C.CrqEnd.is_shared (g.C.CrqEnd.state c.free.new.self.end) g.O.WindowPort.is_shared (g.O.WindowPort.state c.args.own.now)) (g.C.CrqEnd.state c.reserve.new.self.end) (unfreed c.args.progress.now (search rules))
     c.in_ok-reserve.ensures.rest c.in-Success.ensures.success c.free.ensures.rest refl c.freed.ensures.client (ap (λ answers. answers.items) c.freed.ensures.answers)
 
 pub returns-in-Parameter-clause-acts : goal.returns-in-Parameter-clause-acts

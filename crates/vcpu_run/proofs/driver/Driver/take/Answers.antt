@@ -407,5 +407,5 @@ returns-in-Nothing-clause-acts g c =
 
 pub returns-clause-acts : goal.returns-clause-acts
 returns-clause-acts g c =
-    line_slots c.args.count c.args.taken.now c.loop-entry.taken c.loop-entry._entry DidMove (acting c.args.self.now g.C.CrqEnd.is_shared (g.C.CrqEnd.state c.args.crq.now.end) g.O.WindowPort.is_shared (g.O.WindowPort.state c.args.own.now))
+    line_slots c.args.count c.args.taken.now c.loop-entry.taken c.loop-entry._entry (acting c.args.self.now g.C.CrqEnd.is_shared (g.C.CrqEnd.state c.args.crq.now.end) g.O.WindowPort.is_shared (g.O.WindowPort.state c.args.own.now))
     (acting c.loop-entry.self g.C.CrqEnd.is_shared (g.C.CrqEnd.state c.loop-entry.crq.end) g.O.WindowPort.is_shared (g.O.WindowPort.state c.loop-entry.own)) (omega (arith, c.slots-entry-end.ensures.slots, c.loop-entry-test.false)) c.loop-entry.invariant.acts

@@ -303,31 +303,31 @@ pub returns-in-Stray-clause-acts : goal.returns-in-Stray-clause-acts
 returns-in-Stray-clause-acts g c =
     takes_once (acting c.args.self.now g.C.CrqEnd.is_shared (g.C.CrqEnd.state c.args.crq.now.end) g.O.WindowPort.is_shared (g.O.WindowPort.state c.args.own.now))
     (acting (record c.args.self.now { client = c.take_answer.new.self }) g.C.CrqEnd.is_shared (g.C.CrqEnd.state c.take_answer.new.crq.end) g.O.WindowPort.is_shared (g.O.WindowPort.state c.take_answer.new.own))
-    c.in_ok-tag.field-0 (takens.Stray c.in-Stray.field-0) tooks.Other c.in-Stray.is refl c.in_ok-tag.ensures.taken refl
+    c.in_ok-tag.field-0 (takens.Stray c.in-Stray.field-0) tooks.Other c.in-Stray.is refl c.in_ok-tag.ensures.taken refl c.take_answer.ensures.crq_rest c.take_answer.ensures.own_rest refl refl
 
 pub returns-in-Other-clause-acts : goal.returns-in-Other-clause-acts
 returns-in-Other-clause-acts g c =
     takes_once (acting c.args.self.now g.C.CrqEnd.is_shared (g.C.CrqEnd.state c.args.crq.now.end) g.O.WindowPort.is_shared (g.O.WindowPort.state c.args.own.now))
     (acting (record c.args.self.now { client = c.take_answer.new.self }) g.C.CrqEnd.is_shared (g.C.CrqEnd.state c.take_answer.new.crq.end) g.O.WindowPort.is_shared (g.O.WindowPort.state c.take_answer.new.own))
-    c.in_ok-tag.field-0 (takens.Other) tooks.Other c.in-Other.is refl c.in_ok-tag.ensures.taken refl
+    c.in_ok-tag.field-0 (takens.Other) tooks.Other c.in-Other.is refl c.in_ok-tag.ensures.taken refl c.take_answer.ensures.crq_rest c.take_answer.ensures.own_rest refl refl
 
 pub returns-in-Lost-clause-acts : goal.returns-in-Lost-clause-acts
 returns-in-Lost-clause-acts g c =
     takes_once (acting c.args.self.now g.C.CrqEnd.is_shared (g.C.CrqEnd.state c.args.crq.now.end) g.O.WindowPort.is_shared (g.O.WindowPort.state c.args.own.now))
     (acting (record c.args.self.now { client = c.take_answer.new.self }) g.C.CrqEnd.is_shared (g.C.CrqEnd.state c.take_answer.new.crq.end) g.O.WindowPort.is_shared (g.O.WindowPort.state c.take_answer.new.own))
-    c.in_ok-tag.field-0 (takens.Lost) tooks.Lost c.in-Lost.is refl c.in_ok-tag.ensures.taken refl
+    c.in_ok-tag.field-0 (takens.Lost) tooks.Lost c.in-Lost.is refl c.in_ok-tag.ensures.taken refl c.take_answer.ensures.crq_rest c.take_answer.ensures.own_rest refl refl
 
 pub returns-in-Again-clause-acts : goal.returns-in-Again-clause-acts
 returns-in-Again-clause-acts g c =
     takes_once (acting c.args.self.now g.C.CrqEnd.is_shared (g.C.CrqEnd.state c.args.crq.now.end) g.O.WindowPort.is_shared (g.O.WindowPort.state c.args.own.now))
     (acting (record c.args.self.now { client = c.take_answer.new.self }) g.C.CrqEnd.is_shared (g.C.CrqEnd.state c.take_answer.new.crq.end) g.O.WindowPort.is_shared (g.O.WindowPort.state c.take_answer.new.own))
-    c.in_ok-tag.field-0 (takens.Again c.in-Again.page c.in-Again.word) tooks.InUse c.in-Again.is refl c.in_ok-tag.ensures.taken refl
+    c.in_ok-tag.field-0 (takens.Again c.in-Again.page c.in-Again.word) tooks.InUse c.in-Again.is refl c.in_ok-tag.ensures.taken refl c.take_answer.ensures.crq_rest c.take_answer.ensures.own_rest refl refl
 
 pub returns-in-Empty-clause-acts : goal.returns-in-Empty-clause-acts
 returns-in-Empty-clause-acts g c =
     takes_once (acting c.args.self.now g.C.CrqEnd.is_shared (g.C.CrqEnd.state c.args.crq.now.end) g.O.WindowPort.is_shared (g.O.WindowPort.state c.args.own.now))
     (acting (record c.args.self.now { client = c.take_answer.new.self }) g.C.CrqEnd.is_shared (g.C.CrqEnd.state c.take_answer.new.crq.end) g.O.WindowPort.is_shared (g.O.WindowPort.state c.take_answer.new.own))
-    c.in_ok-tag.field-0 (takens.Empty c.in-Empty.number) tooks.Nothing c.in-Empty.is refl c.in_ok-tag.ensures.taken refl
+    c.in_ok-tag.field-0 (takens.Empty c.in-Empty.number) tooks.Nothing c.in-Empty.is refl c.in_ok-tag.ensures.taken refl c.take_answer.ensures.crq_rest c.take_answer.ensures.own_rest refl refl
 
 pub returns-in_ok-note-in-Answer-clause-acts : goal.returns-in_ok-note-in-Answer-clause-acts
 returns-in_ok-note-in-Answer-clause-acts g c =
@@ -336,4 +336,4 @@ returns-in_ok-note-in-Answer-clause-acts g c =
     (takes_once (acting c.args.self.now g.C.CrqEnd.is_shared (g.C.CrqEnd.state c.args.crq.now.end) g.O.WindowPort.is_shared (g.O.WindowPort.state c.args.own.now))
     (acting (record c.note.new.self { client = c.take_answer.new.self }) g.C.CrqEnd.is_shared (g.C.CrqEnd.state c.take_answer.new.crq.end) g.O.WindowPort.is_shared (g.O.WindowPort.state c.take_answer.new.own))
     c.in_ok-tag.field-0 (takens.Answer c.in-Answer.tag c.in-Answer.rsp) tooks.Answer c.in-Answer.is refl c.in_ok-tag.ensures.taken (subst (λ (n : ℕ). NotesIn n c.in-Answer.tag c.in-Answer.rsp c.args.self.now.answers.items c.note.new.self.answers.items) c.session.ensures.session
-    c.in_ok-note-in-Answer.ensures.notes))
+    c.in_ok-note-in-Answer.ensures.notes) c.take_answer.ensures.crq_rest c.take_answer.ensures.own_rest refl refl)

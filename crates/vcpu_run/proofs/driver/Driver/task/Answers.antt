@@ -98,4 +98,4 @@ pub returns-clause-acts : goal.returns-clause-acts
 returns-clause-acts g c =
     task_acts c.args.line c.args.function c.args.tag (acting c.args.self.now g.C.CrqEnd.is_shared (g.C.CrqEnd.state c.args.crq.now.end) g.O.WindowPort.is_shared (g.O.WindowPort.state c.args.own.now))
     (acting (record c.args.self.now { client = c.task.new.self }) g.C.CrqEnd.is_shared (g.C.CrqEnd.state c.task.new.crq.end) g.O.WindowPort.is_shared (g.O.WindowPort.state c.task.new.own))
-    c.task.result c.sent.result refl c.sent.ensures.sent c.sent.ensures.why c.task.ensures.refused c.task.ensures.sent c.task.ensures.why c.task.ensures.same
+    c.task.result c.sent.result refl c.sent.ensures.sent c.sent.ensures.why c.task.ensures.refused c.task.ensures.sent c.task.ensures.why c.task.ensures.same c.task.ensures.crq_rest c.task.ensures.own_rest c.sent.ensures.memory

@@ -21,7 +21,8 @@ use Rattle.vcpu_run.proofs.HeardTurns.{heard_fresh}
 use Rattle.vio_num.specs.declared.history.Grant.{Grant}
 use Rattle.vio_num.specs.declared.history.Served.{Served}
 use Rattle.vcpu_run.specs.PlainPairs.{books_of}
-use Rattle.vcpu_run.specs.PlainRuns.{ArePlain}
+use Rattle.vcpu_run.specs.ClientRuns.{AreClients}
+use Rattle.vcpu_run.proofs.OwnBooted.{boots_own}
 use Rattle.vcpu_run.proofs.PlainBooted.{UnitsStart, boots_plainly, scripts_start}
 use Rattle.vcpu_run.proofs.machine.Machine.boot.Goals as goal
 
@@ -117,8 +118,8 @@ returns-clause-ready g c =
 pub returns-clause-none : goal.returns-clause-none
 returns-clause-none g c = c.in_ok-server.ensures.history
 
-pub returns-clause-plainly : goal.returns-clause-plainly
-returns-clause-plainly g c =
+pub returns-clause-clients : goal.returns-clause-clients
+returns-clause-clients g c =
     let pairs = c.in-Ok.pairs in
     let scripts = c.in-Ok-make_scripts.scripts in
     let server = c.in_ok-server in
@@ -140,7 +141,12 @@ returns-clause-plainly g c =
       granting = server.ensures.grants.each;
       names = λ k unit found. (server.ensures.order (λ told. true) k unit found).id;
     } in
-    subst (λ (lines : List Grant). ArePlain grant server.server.partition (books_of list lines server.server.records.history.items) pairs.items scripts.items) (sym server.ensures.lines)
-    (subst (λ (rows : List Served). ArePlain grant server.server.partition (books_of list [] rows) pairs.items scripts.items) (sym server.ensures.history)
-    (boots_plainly grant server.server.partition partitions pairs.items scripts.items c.in-Ok-open_lan.lan.seats list home (omega (arith, c.requires.sound.grant)) of_plan
-    (scripts_start partitions scripts.items made) c.in-Ok.ensures.opens (sym size ∙ (server.ensures.units ∙ (c.len.ensures ∙ same))) start))
+    let most : grant ≤ 200 = omega (arith, c.requires.sound.grant) in
+    let starts = scripts_start partitions scripts.items made in
+    let many = sym size ∙ (server.ensures.units ∙ (c.len.ensures ∙ same)) in
+    subst (λ (lines : List Grant). AreClients grant server.server.partition (books_of list lines server.server.records.history.items) pairs.items scripts.items) (sym server.ensures.lines)
+    (subst (λ (rows : List Served). AreClients grant server.server.partition (books_of list [] rows) pairs.items scripts.items) (sym server.ensures.history)
+    (record {
+      plain = boots_plainly grant server.server.partition partitions pairs.items scripts.items c.in-Ok-open_lan.lan.seats list home most of_plan starts c.in-Ok.ensures.opens many start;
+      own = boots_own grant server.server.partition partitions pairs.items scripts.items c.in-Ok-open_lan.lan.seats list home most of_plan starts c.in-Ok.ensures.opens many start;
+    }))

@@ -24,8 +24,8 @@ use Rattle.vcpu_run.specs.Heard.{AreHeard}
 use Rattle.vcpu_run.proofs.Causings.{caused_told, form_told}
 use Rattle.block_server.specs.TurnStock.{stock_of}
 use Rattle.vcpu_run.specs.Served.{AllServed, books_in}
-use Rattle.vcpu_run.specs.PlainRuns.{ArePlain}
-use Rattle.vcpu_run.proofs.PlainTold.{plain_same}
+use Rattle.vcpu_run.specs.ClientRuns.{AreClients}
+use Rattle.vcpu_run.proofs.OwnTold.{clients_same}
 use Rattle.vcpu_run.proofs.machine.Machine.settle.Goals as goal
 
 pub trace_of-trace-requires-clause-pairs : goal.trace_of-trace-requires-clause-pairs
@@ -257,8 +257,8 @@ returns-clause-caused g c =
     history copies pairs (ap (λ image. (g.Di.Blocks.state image).blocks) c.finish-image.ensures.image)
     c.run-run.ensures.goes.causes c.trace_of-trace.ensures.serves c.trace_of-trace.ensures.shown
 
-pub returns-clause-plainly : goal.returns-clause-plainly
-returns-clause-plainly g c =
+pub returns-clause-clients : goal.returns-clause-clients
+returns-clause-clients g c =
     let old = c.args.self.pairs in
     let new = c.run-run.new.pairs in
     let old_scripts = c.args.self.scripts in
@@ -276,19 +276,19 @@ returns-clause-plainly g c =
     let scripts : list_scripts ≡ new_scripts = lent old_scripts.len old_scripts.items new_scripts size_scripts run.count in
     let rows : c.finish-image.result.history.items ≡ server'.records.history.items = rw c.finish-image.ensures.history refl in
     let lines : c.finish-image.result.grants.items ≡ server'.records.grants.items = rw c.finish-image.ensures.grants refl in
-    IfSome_then c.trace_of-trace.result c.trace_of-trace.ensures.plainly
-    (λ trace keeps partitions of_plan granted plain.
-    let before : ArePlain granted server.partition books c.deref_mut.result.now c.deref_mut-2.result.now =
-    subst (λ (l : List Pair). ArePlain granted server.partition books l c.deref_mut-2.result.now) (sym c.deref_mut.ensures.value)
-    (subst (λ (l : List Script). ArePlain granted server.partition books old.items l) (sym c.deref_mut-2.ensures.value) plain) in
+    IfSome_then c.trace_of-trace.result c.trace_of-trace.ensures.clients
+    (λ trace keeps partitions of_plan granted are.
+    let before : AreClients granted server.partition books c.deref_mut.result.now c.deref_mut-2.result.now =
+    subst (λ (l : List Pair). AreClients granted server.partition books l c.deref_mut-2.result.now) (sym c.deref_mut.ensures.value)
+    (subst (λ (l : List Script). AreClients granted server.partition books old.items l) (sym c.deref_mut-2.ensures.value) are) in
     keeps partitions (rw (pairs, scripts) (plan_lasts partitions old.items new old_scripts.items new_scripts c.args.self.lan.seats c.run-run.new.lan.seats stay run c.run-run.ensures.stays.seats of_plan))
     granted server'.partition server'.units.items
     (ok_then c.run-run.result
-    ((granted : ℕ) → ArePlain granted server.partition books c.deref_mut.result.now c.deref_mut-2.result.now
-    → ArePlain granted server'.partition (books_in server') new new_scripts) _
-    (λ kept. plain_same granted server'.partition server'.units.items server'.records.grants.items c.finish-image.result.grants.items
-    server'.records.history.items c.finish-image.result.history.items new list new_scripts list_scripts lines rows pairs scripts (kept granted before))
-    c.run-run.ensures.plainly))
+    (AreLinked server.units.items c.deref_mut.result.now → (granted : ℕ) → AreClients granted server.partition books c.deref_mut.result.now c.deref_mut-2.result.now
+    → AreClients granted server'.partition (books_in server') new new_scripts) _
+    (λ kept. clients_same granted server'.partition server'.units.items server'.records.grants.items c.finish-image.result.grants.items
+    server'.records.history.items c.finish-image.result.history.items new list new_scripts list_scripts lines rows pairs scripts (kept (subst (AreLinked server.units.items) (sym c.deref_mut.ensures.value) c.requires.ready.linked) granted before))
+    c.run-run.ensures.clients))
 
 pub returns-clause-formed : goal.returns-clause-formed
 returns-clause-formed g c =

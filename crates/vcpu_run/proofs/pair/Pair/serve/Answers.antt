@@ -42,9 +42,12 @@ use Rattle.vcpu_run.proofs.ShutKept.{begun_back, served_link}
 use Rattle.tce_window.specs.Window.{strokes_at}
 use Rattle.vcpu_run.proofs.ClientsServed.{none_owned}
 use Rattle.vcpu_run.specs.Machines.{server_id}
-use Rattle.vcpu_run.specs.PlainPairs.{ServesPlainly}
+use Rattle.vcpu_run.specs.ClientRuns.{ServesClients}
+use Rattle.vcpu_run.specs.OwnDoing.{DoesAt, HeardAt}
 use Rattle.vcpu_run.specs.Served.{books_in}
-use Rattle.vcpu_run.proofs.Elsewhere.{ok_then}
+use Rattle.vcpu_run.proofs.Going.{ok_three}
+use Rattle.vcpu_run.proofs.OwnClauses.{does_ok, heard_ok}
+use Rattle.vcpu_run.proofs.OwnServed.{served_own_pair}
 use Rattle.vcpu_run.proofs.PlainIdles.{idle_ok, ids_stay}
 use Rattle.vcpu_run.proofs.PlainPaired.{TurnsOn, idles_pair, served_pair, spares_unit, turns_ok}
 use Rattle.vcpu_run.proofs.PlainUnserved.{served_away}
@@ -249,8 +252,8 @@ returns-clause-told g c = λ told tells.
           (hears_back c.turn.new.crq.end.first [] (c.turn.new.crq.end.link.ghost_name ∷ []) link first) is);
     }
 
-pub returns-clause-plainly : goal.returns-clause-plainly
-returns-clause-plainly g c =
+pub returns-clause-clients : goal.returns-clause-clients
+returns-clause-clients g c =
     let old = c.args.self.now in
     let server = c.args.server.now in
     let server' = c.turn.new.self in
@@ -271,21 +274,31 @@ returns-clause-plainly g c =
     (λ words u at calm. (c.turn.ensures.if_ready words u at calm).leaves) (λ words u at calm. (c.turn.ensures.if_ready words u at calm).rows) c.turn.ensures.opens
     (ids_stay _ _ _ _ server.partition server'.partition server.units.items server'.units.items server.records server'.records c.turn.ensures.stays.partition server.serving server'.serving unit)
     goes.queue_place (c.turn.ensures.ports.partner refl) goes.put c.turn.new.crq.behind.low goes.client_place in
+    let does = does_ok c.turn.result name books books' unit (state_of c.side.result) (state_of c.turn.new.crq.end) (known_of old.window) (known_of c.turn.new.client)
+    (c.turn.ensures.does refl refl) c.turn.ensures.says.agrees in
+    let heard = heard_ok c.turn.result books books' unit (state_of c.side.result) (state_of c.turn.new.crq.end) c.turn.ensures.heard in
+    let new : Pair = record { server = old.server; link = link; own = c.turn.new.own; window = c.turn.new.client; driver = old.driver } in
     let link_is : link ≡ c.self-1.given.0 = search rules in
-    subst (λ (l : PlainLink). OnOk c.turn.result (ServesPlainly server.partition books books' unit old
+    subst (λ (l : PlainLink). OnOk c.turn.result (ServesClients server.partition books books' unit old
     (record { server = old.server; link = l; own = c.turn.new.own; window = c.turn.new.client; driver = old.driver }))) link_is
-    (ok_then c.turn.result _ _
-    (λ on granted told is.
+    (ok_three c.turn.result _ _ _ _
+    (λ on steps hears.
     let turned = subst (λ (end : EndState). TurnsOn name books books' unit end (end_of back link true) (known_of old.window) (known_of c.turn.new.client)) before
-    (subst (λ (end : EndState). TurnsOn name books books' unit (state_of c.side.result) end (known_of old.window) (known_of c.turn.new.client)) after on) in (
-      served_pair granted told server.partition unit _ name books books' lent back old
-          (record { server = old.server; link = link; own = c.turn.new.own; window = c.turn.new.client; driver = old.driver }) (c.requires.pair.own_unit ∙ c.requires.pair.server) refl
-          (subst (λ (id : UnitId). ∥ LinesMore id (grant_of server.units.items unit) books.lines books'.lines ∥₁) (c.requires.pair.own_unit ∙ c.requires.pair.server) c.turn.ensures.requests.lines)
-          turned is,
-      served_away granted told server.partition unit name books books' lent back old
-          (record { server = old.server; link = link; own = c.turn.new.own; window = c.turn.new.client; driver = old.driver }) turned is,
-    ))
-    turns)
+    (subst (λ (end : EndState). TurnsOn name books books' unit (state_of c.side.result) end (known_of old.window) (known_of c.turn.new.client)) after on) in
+    let lines =
+    subst (λ (id : UnitId). ∥ LinesMore id (grant_of server.units.items unit) books.lines books'.lines ∥₁) (c.requires.pair.own_unit ∙ c.requires.pair.server) c.turn.ensures.requests.lines in
+    record {
+      plain = λ granted told is. (
+        served_pair granted told server.partition unit _ name books books' lent back old new (c.requires.pair.own_unit ∙ c.requires.pair.server) refl lines turned is,
+        served_away granted told server.partition unit name books books' lent back old new turned is,
+      );
+      own = served_own_pair server.partition unit _ name books books' lent back old new (c.requires.pair.own_unit ∙ c.requires.pair.server) refl lines turned
+          (subst (λ (end : EndState). DoesAt name books books' unit end (end_of back link true) (known_of old.window) (known_of c.turn.new.client)) before
+          (subst (λ (end : EndState). DoesAt name books books' unit (state_of c.side.result) end (known_of old.window) (known_of c.turn.new.client)) after steps))
+          (subst (λ (end : EndState). HeardAt books books' unit end (end_of back link true)) before
+          (subst (λ (end : EndState). HeardAt books books' unit (state_of c.side.result) end) after hears));
+    })
+    turns does heard)
 
 pub returns-clause-idles : goal.returns-clause-idles
 returns-clause-idles g c =

@@ -2,6 +2,7 @@ use Rattle.std.proofs.Common.{◌≡◌, ◌∙◌, ℕ, None, Some, Ok, ap, fal
 use Rattle.std.proofs.lemmas.Option.{slice_get_read, slice_get_within}
 use Rattle.vio_trace.specs.declared.outcome.Outcome.{Outcome}
 use Rattle.vio_trace.specs.declared.outcome.Outcome.TheVariants as outcomes
+use Rattle.vio_trace.specs.declared.rows.LogRow.{LogRow}
 use Rattle.vscsi_client.specs.State.{ClientState}
 use Rattle.unit_region.specs.declared.step.Step.TheVariants as steps
 use Rattle.vcpu_run.specs.Credited.{StepsAgreed, grants, is_take, taken_in}
@@ -22,6 +23,7 @@ use Rattle.vcpu_run.proofs.Credits.{plain_fresh, takes_same, took_agreed}
 use Rattle.vcpu_run.proofs.ScriptsTold.{EndsWaiting, of_login, of_reset, of_take, waiting_shows, waiting_told}
 use Rattle.vcpu_run.proofs.Held.{waited_held}
 use Rattle.vcpu_run.proofs.Logging.{all_at}
+use Rattle.vcpu_run.proofs.OwnEnded.{waiting_ends_own}
 use Rattle.vcpu_run.proofs.PlainTurning.{waiting_ends}
 use Rattle.vcpu_run.proofs.script.Script.end_waiting.Goals.{in-Login, in-Reset, in-Take}
 use Rattle.vcpu_run.proofs.PortTelling.{taken_within}
@@ -168,8 +170,8 @@ returns-clause-logged c = λ pairs script copies made is.
           c.end.ensures.rest.partition c.end.ensures.rest.lines c.end.ensures.rest.seats c.in_ok-end.ensures.ended.logs is.calls;
     }
 
-pub returns-clause-plainly : goal.returns-clause-plainly
-returns-clause-plainly c = λ granted u k pairs script none stands.
+pub returns-clause-clients : goal.returns-clause-clients
+returns-clause-clients c = λ pairs script.
     let found : slice_get c.args.self.now.lines.now c.args.self.now.at ≡ Some c.in-Some.line.now =
     slice_get_read c.args.self.now.lines.now (length c.args.self.now.lines.now) c.args.self.now.at c.in-Some.line.now refl
     (less_by c.args.self.now.at (length c.args.self.now.lines.now) (sym c.in-Some.ensures.lookup.0)) c.in-Some.ensures.lookup.1 in
@@ -179,7 +181,11 @@ returns-clause-plainly c = λ granted u k pairs script none stands.
       | in-Reset w ↦ of_reset w.in-Reset.is w.outcome-is
       | in-Take w ↦ of_take w.in-Take.count w.in-Take.is (w.outcome-is ∙ ap (λ n. outcomes.Took n) w.taken.ensures)
     ] in
-    waiting_ends granted u k pairs c.args.self.now c.end.new.self c.in-Some.line.now
-    (record { partition = c.args.self.now.partition; line = c.in-Some.line.now.number; outcome = c.match-line.outcome })
-    found (script.logs.reached (slice_get_within c.args.self.now.lines.now c.args.self.now.at c.in-Some.line.now found)) ends
-    c.end.ensures.rest.lines c.in_ok-end.ensures.ended.logs c.in_ok-end.ensures.fresh none stands
+    let row : LogRow = record { partition = c.args.self.now.partition; line = c.in-Some.line.now.number; outcome = c.match-line.outcome } in
+    let many = script.logs.reached (slice_get_within c.args.self.now.lines.now c.args.self.now.at c.in-Some.line.now found) in
+    record {
+      plain = λ granted u k none stands. waiting_ends granted u k pairs c.args.self.now c.end.new.self c.in-Some.line.now row found many ends
+          c.end.ensures.rest.lines c.in_ok-end.ensures.ended.logs c.in_ok-end.ensures.fresh none stands;
+      own = waiting_ends_own pairs c.args.self.now c.end.new.self c.in-Some.line.now row found many ends
+          c.end.ensures.rest.lines c.in_ok-end.ensures.ended.logs c.in_ok-end.ensures.fresh;
+    }

@@ -117,7 +117,8 @@ returns-in-None-clause-quiets c =
 pub returns-in-None-clause-acts : goal.returns-in-None-clause-acts
 returns-in-None-clause-acts c =
     let over : length c.args.self.now.lines.now ≤ c.args.self.now.at = over_by c.args.self.now.at (length c.args.self.now.lines.now) (sym c.get.ensures.lookup.0 ∙ ap is_some c.in-None.is) in
-    goes_none c.take_rest.result c.args.pairs.now c.take_rest.new.pairs c.args.self.now c.args.self.now (slice_get_past c.args.self.now.lines.now c.args.self.now.at over) c.take_rest.ensures.acts
+    goes_none c.take_rest.result c.args.pairs.now c.take_rest.new.pairs c.args.self.now (slice_get_past c.args.self.now.lines.now c.args.self.now.at over) c.take_rest.ensures.acts
+    c.take_rest.ensures.plainly c.take_rest.ensures.gives
 
 pub returns-in-Some-clause-acts : goal.returns-in-Some-clause-acts
 returns-in-Some-clause-acts c =

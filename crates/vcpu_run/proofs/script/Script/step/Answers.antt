@@ -1,13 +1,14 @@
 use Rattle.vcpu_run.proofs.Resting.{not_quiet, ok_more}
 use Rattle.vcpu_run.specs.NotedOn.{AllKeepNoted}
 use Rattle.vcpu_run.specs.Machines.{AllStay}
-use Rattle.vcpu_run.proofs.DataNoted.{keep_line}
+use Rattle.vcpu_run.proofs.DataNoted.{keep_line, keep_told}
 use Rattle.vcpu_run.proofs.Keeping.{drivers_driven}
 use Rattle.vcpu_run.specs.declared.unit_seat.Seat.{Seat}
 use Rattle.vcpu_run.specs.Freed.{FreesNoneIf}
 use Rattle.vcpu_run.specs.Freeing.{IsSpared}
 use Rattle.vcpu_run.specs.Holding.{LineOpen}
 use Rattle.vcpu_run.proofs.Held.{ends_held, waits_held, waits_open}
+use Rattle.vcpu_run.proofs.Elsewhere.{ok_then}
 use Rattle.std.proofs.Common.{rules, ap, false, ◌≡◌, ◌∙◌, List, Ok, refl, slice_get, subst, arith}
 use Rattle.std.proofs.lemmas.Option.{slice_get_within}
 use Rattle.unit_region.specs.declared.step.Step.{Step}
@@ -207,7 +208,18 @@ returns-in_ok-end-in-Ends c =
           (λ no.
           (subst (λ (st : Step). LineActs c.args.self.now.seats.items c.args.line.now c.args.self.now.progress c.step_unit.new.progress c.args.pairs.now c.step_unit.new.pairs st) c.in-Ends.is
           (rw (← c.deref.ensures.value) (c.in_ok-step.ensures.acts no))))
-          (record { logs = c.in_ok-end-in-Ends.ensures.ended.logs; none = c.in_ok-end-in-Ends.ensures.ended.none });
+          (λ no.
+          (subst (λ (st : Step). LinePlainly c.args.self.now.seats.items c.args.line.now c.args.self.now.progress c.step_unit.new.progress c.args.pairs.now c.step_unit.new.pairs (Ok st)) c.in-Ends.is
+          (rw (← c.deref.ensures.value) (c.in_ok-step.ensures.plainly no))))
+          (λ no.
+          keep_told c.args.self.now.seats.items c.args.line.now c.args.self.now.progress c.step_unit.new.progress c.args.pairs.now c.step_unit.new.pairs (steps.Ends c.in-Ends.outcome) line.suited
+          (subst (λ (st : Step). LineTold c.args.self.now.seats.items c.args.line.now c.args.self.now.progress c.step_unit.new.progress c.args.pairs.now c.step_unit.new.pairs (Ok st)) c.in-Ends.is
+          (rw (← c.deref.ensures.value) (c.in_ok-step.ensures.said no))))
+          (record {
+            ended = record { logs = c.in_ok-end-in-Ends.ensures.ended.logs; none = c.in_ok-end-in-Ends.ensures.ended.none };
+            at = c.in_ok-end-in-Ends.ensures.at;
+            fresh = c.in_ok-end-in-Ends.ensures.fresh;
+          });
     }
 
 pub returns-in-Waits : goal.returns-in-Waits
@@ -299,10 +311,17 @@ returns-in-Waits c =
           (subst (λ (st : Step). LinePlainly c.args.self.now.seats.items c.args.line.now c.args.self.now.progress c.step_unit.new.progress c.args.pairs.now c.step_unit.new.pairs (Ok st)) (c.in-Waits.is ∙ ap (λ m. steps.Waits m) is)
           (rw (← c.deref.ensures.value) (c.in_ok-step.ensures.plainly (all_at (λ (l : Line). is_call l.verb ≡ false) c.args.self.now.lines.now c.args.self.now.at c.args.line.now c.requires.line no)))));
       acts =
-          waits_go c.args.line.now c.step_unit.new.progress c.in-Waits.moved c.args.pairs.now c.step_unit.new.pairs c.args.self.now (one_unit c.args.line.now.verb c.in_default.not-Fail)
+          waits_go c.args.line.now c.step_unit.new.progress c.in-Waits.moved c.args.pairs.now c.step_unit.new.pairs c.args.self.now (one_unit c.args.line.now.verb c.in_default.not-Fail) line.suited
           (λ no.
           (subst (λ (st : Step). LineActs c.args.self.now.seats.items c.args.line.now c.args.self.now.progress c.step_unit.new.progress c.args.pairs.now c.step_unit.new.pairs st) c.in-Waits.is
-          (rw (← c.deref.ensures.value) (c.in_ok-step.ensures.acts no))));
+          (rw (← c.deref.ensures.value) (c.in_ok-step.ensures.acts no))))
+          (λ no.
+          (subst (λ (st : Step). LinePlainly c.args.self.now.seats.items c.args.line.now c.args.self.now.progress c.step_unit.new.progress c.args.pairs.now c.step_unit.new.pairs (Ok st)) c.in-Waits.is
+          (rw (← c.deref.ensures.value) (c.in_ok-step.ensures.plainly no))))
+          (λ no.
+          keep_told c.args.self.now.seats.items c.args.line.now c.args.self.now.progress c.step_unit.new.progress c.args.pairs.now c.step_unit.new.pairs (steps.Waits c.in-Waits.moved) line.suited
+          (subst (λ (st : Step). LineTold c.args.self.now.seats.items c.args.line.now c.args.self.now.progress c.step_unit.new.progress c.args.pairs.now c.step_unit.new.pairs (Ok st)) c.in-Waits.is
+          (rw (← c.deref.ensures.value) (c.in_ok-step.ensures.said no))));
     }
 
 pub returns-in-Fail-clause-out : goal.returns-in-Fail-clause-out
@@ -310,4 +329,5 @@ returns-in-Fail-clause-out c = ok_more c.step_fail.result _ _ (λ moved out is n
 
 pub returns-in-Fail-clause-acts : goal.returns-in-Fail-clause-acts
 returns-in-Fail-clause-acts c =
-    fails_go c.step_fail.result c.args.line.now c.args.pairs.now c.step_fail.new.pairs c.args.self.now c.step_fail.new.self (ap fails c.in-Fail.is) c.step_fail.ensures.acts
+    fails_go c.step_fail.result c.args.line.now c.args.pairs.now c.step_fail.new.pairs c.args.self.now c.step_fail.new.self (ap fails c.in-Fail.is)
+    c.step_fail.ensures.acts

@@ -1,6 +1,6 @@
 use Rattle.vcpu_run.proofs.DataNoted.{keep_gives}
 use Rattle.vcpu_run.proofs.Resting.{not_quiet}
-use Rattle.std.proofs.Common.{◌≡◌, ◌+◌, ◌∙◌, List, ap, cond, length, refl, subst, sym, arith}
+use Rattle.std.proofs.Common.{◌≡◌, ◌+◌, ◌∙◌, inl, inr, List, ap, cond, length, refl, subst, sym, arith}
 use Rattle.std.proofs.lemmas.Option.{slice_get_within}
 use Rattle.vcpu_run.proofs.CallRecords.{calls_ends, calls_still}
 use Rattle.vcpu_run.proofs.LinesRead.{fails_read}
@@ -186,7 +186,26 @@ pub returns-clause-quiets : goal.returns-clause-quiets
 returns-clause-quiets c = λ is. fails_quietly c.args.pairs.now c.fail.new.pairs c.args.self.now c.args.line.now c.requires.line c.requires.fails
 
 pub returns-then-branch-clause-acts : goal.returns-then-branch-clause-acts
-returns-then-branch-clause-acts c = c.in_ok-fail.ensures.acts
+returns-then-branch-clause-acts c = (
+  record {
+    acts = c.in_ok-fail.ensures.acts;
+    plainly = c.in_ok-fail.ensures.plainly;
+    keeps = keep_gives c.args.pairs.now c.fail.new.pairs c.in_ok-fail.ensures.gives;
+    leaves = inr (
+      record { ended = c.in_ok-end.ensures.ended; at = c.in_ok-end.ensures.at; fresh = c.in_ok-end.ensures.fresh },
+      subst (λ (seats : List Seat). SeatsShut seats c.fail.new.pairs) c.deref.ensures.value (c.in_ok-fail.ensures.down (grind arith)),
+    );
+  },
+  λ is. absurd (not_quiet is),
+)
 
 pub returns-clause-acts : goal.returns-clause-acts
-returns-clause-acts c = c.in_ok-fail.ensures.acts
+returns-clause-acts c = (
+  record {
+    acts = c.in_ok-fail.ensures.acts;
+    plainly = c.in_ok-fail.ensures.plainly;
+    keeps = keep_gives c.args.pairs.now c.fail.new.pairs c.in_ok-fail.ensures.gives;
+    leaves = inl refl;
+  },
+  λ is. refl,
+)

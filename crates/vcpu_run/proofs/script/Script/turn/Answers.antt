@@ -1,4 +1,5 @@
 use Rattle.std.proofs.Common.{List, subst}
+use Rattle.vcpu_run.proofs.ActsScripts.{goes_stays}
 use Rattle.vcpu_run.proofs.CallRecords.{calls_served}
 use Rattle.vcpu_run.proofs.ClientRecords.{logs_served}
 use Rattle.vcpu_run.proofs.Crediting.{credited_same}
@@ -102,4 +103,16 @@ returns-clause-quiets c = λ is.
     c.in_ok-pushed.ensures.plainly (c.in_ok-moved.ensures.quiets (c.either.ensures.other is))
 
 pub returns-clause-acts : goal.returns-clause-acts
-returns-clause-acts c = record { pairs = c.push_events.new.pairs; pushes = c.in_ok-pushed.ensures.acts; goes = c.in_ok-moved.ensures.acts }
+returns-clause-acts c = record {
+  pairs = c.push_events.new.pairs;
+  pushes = c.in_ok-pushed.ensures.acts;
+  driven = c.push_events.ensures.driven;
+  clients = c.push_events.ensures.clients;
+  talks_on = c.in_ok-pushed.ensures.plainly;
+  leads = c.go_on.ensures.driven;
+  went = c.in_ok-moved.moved;
+  goes = c.in_ok-moved.ensures.acts;
+  quiet = λ is. c.either.ensures.other is;
+  rests = λ is. c.in_ok-pushed.ensures.quiet (c.either.ensures.one is);
+  stays = λ is. goes_stays c.in_ok-moved.moved c.push_events.new.pairs c.go_on.new.pairs c.args.self.now c.go_on.new.self c.in_ok-moved.ensures.acts (c.either.ensures.other is);
+}

@@ -1,0 +1,156 @@
+-- A turn of the server unit at the pair of an own client that talks to it: either it has the rights that it needs, or the session of the unit is over
+-- behind it.
+use Rattle.std.proofs.Common.{◌≡◌, ◌∙◌, ◌⊎◌, ◌≤◌, ◌++◌, ◌||◌, inl, inr, ℕ, All, Bool, false, true, List, [], Some, None, length, map, slice_get, refl, sym, ap, ap₂, subst, arith}
+use Rattle.std.specs.Borrow.{GName}
+use Rattle.vio_num.specs.declared.names.UnitId.{UnitId}
+use Rattle.crq_session.specs.EndState.{EndPlace}
+use Rattle.crq_session.specs.PlainState.{end_of}
+use Rattle.srp_iu.specs.declared.unit.Iu.{Iu}
+use Rattle.tce_window.specs.PlainPort.{known_of}
+use Rattle.block_server.specs.Doings.{DoesTurn, IsAtRest, KeepsNoAnswer}
+use Rattle.block_server.specs.HeardOut.{HearsOut, MayHear, ServesOut}
+use Rattle.block_server.specs.Judged.{row_in}
+use Rattle.block_server.specs.Receipts.{is_down}
+use Rattle.block_server.specs.RowsOn.{row_tag}
+use Rattle.block_server.specs.Talk.{Word, to_come}
+use Rattle.block_server.specs.declared.unit.Unit.{Unit}
+use Rattle.vcpu_run.specs.Credited.{Ended}
+use Rattle.vcpu_run.specs.Machines.{server_id}
+use Rattle.vcpu_run.specs.OwnCounts.{KeepsPair}
+use Rattle.vcpu_run.specs.OwnDoing.{DoesAt, HeardAt}
+use Rattle.vcpu_run.specs.OwnOver.{IsOver}
+use Rattle.vcpu_run.specs.OwnPairs.{doing_of}
+use Rattle.vcpu_run.specs.OwnRows.{KeepsRows}
+use Rattle.vcpu_run.specs.OwnTurns.{StillTalks}
+use Rattle.vcpu_run.specs.PlainBorne.{rows_by}
+use Rattle.vcpu_run.specs.PlainPairs.{ServerBooks, between_of}
+use Rattle.vcpu_run.specs.PlainTalk.{AreSaidThere, AskedParts, Between, InPhase, IsCalm, IsTalking, TalksPlainly}
+use Rattle.vcpu_run.specs.declared.driver.Driver.{Driver}
+use Rattle.vcpu_run.specs.declared.pair.Pair.{Pair}
+use Rattle.vcpu_run.proofs.Listed.{some_is}
+use Rattle.vcpu_run.proofs.OwnDoes.{TalksOrOver}
+use Rattle.vcpu_run.proofs.OwnHeardOut.{SeesClient, said_long}
+use Rattle.vcpu_run.proofs.OwnHears.{turn_granted}
+use Rattle.vcpu_run.proofs.OwnQuiet.{away_rights, beginning_rights}
+use Rattle.vcpu_run.proofs.OwnReady.{HasItsRights, rights_told}
+use Rattle.vcpu_run.proofs.OwnServedRows.{kept_begins}
+use Rattle.vcpu_run.proofs.OwnServedTags.{KeepsAll, KeepsTags, all_turn}
+use Rattle.vcpu_run.proofs.OwnStarts.{still_begins}
+use Rattle.vcpu_run.proofs.PlainPaired.{TurnsOn}
+use Rattle.vcpu_run.proofs.PlainTurned.{lent_at, talk_lent, talks_lent}
+
+-- ---- the small steps
+
+-- nothing is in service between turns
+pub calm_rests : (granted : ℕ) (home k : ℕ) (books : ServerBooks) (words : List Word) (unit : Unit) (driver : Driver) (pair : Pair) → IsCalm granted (between_of unit driver pair) words
+    → IsAtRest (doing_of unit home k books pair)
+calm_rests granted home k books words unit driver pair calm = inl (record { waiting = calm.waiting; stage = calm.stage; kept = subst KeepsNoAnswer (sym calm.kept) tt })
+
+-- the unit that is there behind the turn
+pub does_there : (home k : ℕ) (books books' : ServerBooks) (a b : List GName) (unit unit' : Unit) (driver : Driver) (old new : Pair)
+    → slice_get books.units k ≡ Some unit → slice_get books'.units k ≡ Some unit'
+    → DoesAt (server_id home k) books books' k (end_of a old.link true) (end_of b new.link true) (known_of old.window) (known_of new.window) → IsAtRest (doing_of unit home k books old)
+    → DoesTurn (doing_of unit home k books old) (doing_of unit' home k books' new)
+does_there home k books books' a b unit unit' driver old new there there' does rests =
+    let on = does.does unit there rests in
+    subst (λ (u : Unit). DoesTurn (doing_of unit home k books old) (doing_of u home k books' new)) (some_is on.unit' unit' (sym on.there ∙ there')) on.does
+
+-- While the client talks to it the small steps lead where the two talk still, or the session is over; its rows stand well behind either.
+pub talks_kept : (granted : ℕ) (told : List Ended) (home k : ℕ) (books books' : ServerBooks) (words : List Word) (asked : AskedParts) (answers : List Iu) (unit unit' : Unit) (driver : Driver)
+    (old new : Pair) → unit.id ≡ server_id home k → IsCalm granted (between_of unit driver old) words → IsTalking granted (between_of unit driver old) words asked answers
+    → driver.client.tabled ≡ None → DoesTurn (doing_of unit home k books old) (doing_of unit' home k books' new)
+    → KeepsPair told (server_id home k) (rows_by (server_id home k) books.rows) driver old
+    → KeepsAll granted (doing_of unit' home k books' new) driver.client (end_of [] old.link false) asked.coming (asked.pending ++ asked.coming)
+talks_kept granted told home k books books' words asked answers unit unit' driver old new id calm talk tabled turn keeps =
+    all_turn granted (doing_of unit home k books old) (doing_of unit' home k books' new) driver.client (end_of [] old.link false) asked.coming (asked.pending ++ asked.coming)
+    (inl (still_begins granted (between_of unit driver old) words asked answers (server_id home k) books.rows books.lines calm talk tabled (sym id) (λ same. keeps.apart (same ∙ id))))
+    (kept_begins told home k books unit driver old id (ap row_in calm.stage) keeps)
+    (subst (λ (one : UnitId). All (λ tag. tag ≤ length driver.client.rows) (map row_tag (rows_by one books.rows))) (sym id) keeps.counted.most) turn.does
+
+-- ---- the rights
+
+-- the unit hears what is to come, and serves a request, or what keeps it from that is said
+may_hear : (granted : ℕ) (at : Between) (words : List Word) (asked : AskedParts) (answers : List Iu) → IsCalm granted at words → IsTalking granted at words asked answers
+    → MayHear at.unit at.server false
+may_hear granted at words asked answers calm talk = record {
+  alone = refl;
+  going = ap₂ (λ (a b : Bool). a || b) calm.closing (ap is_down talk.up);
+  event = calm.event;
+  few = omega (
+    arith,
+    said_long at.window (to_come at.server) asked.coming (subst (AreSaidThere at.window (to_come at.server)) talk.coming calm.said),
+    talk.few,
+    calm.server_slots,
+  );
+}
+
+heard_there : (k : ℕ) (books books' : ServerBooks) (a b : List GName) (unit unit' : Unit) (old new : Pair) → slice_get books.units k ≡ Some unit → slice_get books'.units k ≡ Some unit'
+    → HeardAt books books' k (end_of a old.link true) (end_of b new.link true) → MayHear unit (end_of a old.link true) false
+    → HearsOut 255 false unit' (end_of b new.link true) × (unit.waiting ≡ None → ServesOut unit unit' (end_of a old.link true) (end_of b new.link true))
+heard_there k books books' a b unit unit' old new there there' heard may =
+    let out = heard.heard unit there may in
+    subst (λ (u : Unit). HearsOut 255 false u (end_of b new.link true) × (unit.waiting ≡ None → ServesOut unit u (end_of a old.link true) (end_of b new.link true)))
+    (some_is out.unit' unit' (sym out.there ∙ there')) (out.out, λ waiting. out.serves refl waiting)
+
+-- Where the two talk still behind it, the turn had its rights.
+pub still_rights : (granted : ℕ) (home k : ℕ) (books books' : ServerBooks) (a b : List GName) (words : List Word) (asked : AskedParts) (answers : List Iu) (unit unit' : Unit) (driver : Driver)
+    (old new : Pair) → slice_get books.units k ≡ Some unit → slice_get books'.units k ≡ Some unit'
+    → TurnsOn (server_id home k) books books' k (end_of a old.link true) (end_of b new.link true) (known_of old.window) (known_of new.window)
+    → HeardAt books books' k (end_of a old.link true) (end_of b new.link true)
+    → IsCalm granted (lent_at a [] (between_of unit driver old)) words → IsTalking granted (lent_at a [] (between_of unit driver old)) words asked answers
+    → DoesTurn (doing_of unit home k books old) (doing_of unit' home k books' new)
+    → StillTalks granted (doing_of unit' home k books' new) driver.client (end_of [] old.link false) asked.coming (asked.pending ++ asked.coming)
+    → HasItsRights (lent_at a [] (between_of unit driver old)) words
+still_rights granted home k books books' a b words asked answers unit unit' driver old new there there' turns heard calm talk turn still =
+    let out = heard_there k books books' a b unit unit' old new there there' heard (may_hear granted (lent_at a [] (between_of unit driver old)) words asked answers calm talk) in
+    rights_told granted (lent_at a [] (between_of unit driver old)) (lent_at b [] (between_of unit' driver new)) words asked answers (server_id home k) books'.rows books'.lines calm talk
+    (turn_granted (doing_of unit home k books old) (doing_of unit' home k books' new) turn.does) still sees out.0 (out.1 calm.waiting)
+  where
+    sees : SeesClient (end_of b new.link true) (end_of [] old.link false)
+    sees = record {
+      taken = ap (λ (place : EndPlace). place.partner_taken) turns.place ∙ calm.ends.server_sees.taken;
+      slots = ap (λ (place : EndPlace). place.partner_slots) turns.place ∙ calm.ends.server_sees.slots;
+      room = calm.own_slots;
+    }
+
+-- The session is over behind the turn, as the client stood before it; the unit's rows and what it laid stand well.
+abbrev pub DropsAt : (granted home k : ℕ) → ServerBooks → Unit → Driver → (old new : Pair) → Type 0
+DropsAt granted home k books' unit' driver old new =
+    IsOver granted false (doing_of unit' home k books' new) driver.client (end_of [] old.link false) × KeepsRows (doing_of unit' home k books' new) driver.client
+    × KeepsTags (doing_of unit' home k books' new) driver.client
+
+-- Either the turn had its rights, or the session is over.
+pub rights_or_drop : (granted : ℕ) (told : List Ended) (home k : ℕ) (books books' : ServerBooks) (a b : List GName) (words : List Word) (unit unit' : Unit) (driver : Driver) (old new : Pair)
+    → slice_get books.units k ≡ Some unit → slice_get books'.units k ≡ Some unit' → unit.id ≡ server_id home k
+    → TurnsOn (server_id home k) books books' k (end_of a old.link true) (end_of b new.link true) (known_of old.window) (known_of new.window)
+    → DoesAt (server_id home k) books books' k (end_of a old.link true) (end_of b new.link true) (known_of old.window) (known_of new.window)
+    → HeardAt books books' k (end_of a old.link true) (end_of b new.link true)
+    → TalksPlainly granted (between_of unit driver old) words → KeepsPair told (server_id home k) (rows_by (server_id home k) books.rows) driver old
+    → HasItsRights (lent_at a [] (between_of unit driver old)) words ⊎ DropsAt granted home k books' unit' driver old new
+rights_or_drop granted told home k books books' a b words unit unit' driver old new there there' id turns does heard plainly keeps = by talks.phase
+  where
+    at : Between
+    at = lent_at a [] (between_of unit driver old)
+
+    talks : TalksPlainly granted at words
+    talks = talks_lent a [] granted (between_of unit driver old) words plainly
+
+    turn : DoesTurn (doing_of unit home k books old) (doing_of unit' home k books' new)
+    turn = does_there home k books books' a b unit unit' driver old new there there' does (calm_rests granted home k books words unit driver old plainly.calm)
+
+    talking : (asked : AskedParts) (answers : List Iu) → IsTalking granted at words asked answers → HasItsRights at words ⊎ DropsAt granted home k books' unit' driver old new
+    talking asked answers talk =
+        let all = talks_kept granted told home k books books' words asked answers unit unit' driver old new id plainly.calm (talk_lent [] [] granted at words asked answers talk) plainly.tabled turn keeps in
+        split all.0 all.1 all.2
+      where
+        split : TalksOrOver granted (doing_of unit' home k books' new) driver.client (end_of [] old.link false) asked.coming (asked.pending ++ asked.coming)
+            → KeepsRows (doing_of unit' home k books' new) driver.client → KeepsTags (doing_of unit' home k books' new) driver.client
+            → HasItsRights at words ⊎ DropsAt granted home k books' unit' driver old new
+        split (inl still) rows tags =
+            inl (still_rights granted home k books books' a b words asked answers unit unit' driver old new there there' turns heard talks.calm talk turn still)
+        split (inr over) rows tags = inr (over, rows, tags)
+
+    by : InPhase granted at words → HasItsRights at words ⊎ DropsAt granted home k books' unit' driver old new
+    by (inl away) = inl (away_rights granted at words talks.calm away)
+    by (inr (inl begun)) = inl (beginning_rights granted at words talks.calm begun)
+    by (inr (inr (asked, answers, talk))) = talking asked answers talk
