@@ -21,6 +21,7 @@ use Rattle.block_server.specs.Ranges.{Known, client_known, known_in, seen_in}
 use Rattle.block_server.specs.Receipts.{Standing, is_down, is_ended, standing_of}
 use Rattle.block_server.specs.Serving.{LeavesRow, SettlesRow}
 use Rattle.block_server.specs.SiteState.{SiteState}
+use Rattle.block_server.specs.Stage.{has_answer}
 use Rattle.block_server.specs.Standing.{Stands}
 use Rattle.block_server.specs.Talk.{SettlesLogins, StaysKnown, settled_lines}
 use Rattle.block_server.specs.declared.line.Kept.{Kept}
@@ -173,6 +174,7 @@ puts_entry link unit unit' old new records records' outcome request rest session
   reaches = reach;
   outcome = outcome;
   first = at;
+  long = subst (λ (s : Stage). has_answer s (length unit.service.answer.items) ≡ true) at unit.service.answered;
   stage = stage;
   kept = kept;
   coming = come_same old.queue new.queue only.place only.last_session only.taken;

@@ -32,6 +32,7 @@ use Rattle.block_server.specs.Receipts.{is_ended}
 use Rattle.block_server.specs.RowsOn.{HasLastRow}
 use Rattle.block_server.specs.Serving.{SettlesRow}
 use Rattle.block_server.specs.SiteState.{SiteState}
+use Rattle.block_server.specs.Stage.{fits}
 use Rattle.block_server.specs.Standing.{IsAnswerTo, Stands, stood}
 use Rattle.block_server.specs.Talk.{IsReadWhole, StaysKnown, Suits, order_asked, tag_asked, to_come}
 use Rattle.block_server.specs.declared.line.Kept.{Kept}
@@ -470,13 +471,14 @@ abbrev pub IsNewLogin : Outcome → Doing → Type 0
 IsNewLogin (outcomes.Granted number) new = (new.logins.current ≢ 0) × (new.taking ≡ true) × (new.outstanding ≡ 0)
 IsNewLogin outcome new = ⊤
 
--- It was put, and the request is served: its login begins, or its row has its answer.
+-- It was put, and the request is served: its login begins, or its row has its answer. The answer has a length of its kind.
 pub record PutsEntry (old new : Doing) : Type 0 where
   pub stays : StaysUnit old new
   pub line : StaysLine old new
   pub reaches : old.reaches ≡ true
   pub outcome : Outcome
   pub first : old.stage ≡ stages.Entry outcome
+  pub long : fits outcome (length old.answer) ≡ true
   pub stage : new.stage ≡ stages.Start
   pub kept : new.kept ≡ None
   pub coming : new.coming ≡ old.coming
