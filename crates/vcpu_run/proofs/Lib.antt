@@ -172,9 +172,11 @@ pub mod OwnDataTold
 pub mod OwnDoes
 pub mod OwnDrops
 pub mod OwnEnded
+pub mod OwnEntries
 pub mod OwnHeardOut
 pub mod OwnHears
 pub mod OwnIdle
+pub mod OwnKinds
 pub mod OwnLays
 pub mod OwnLines
 pub mod OwnLogouts
@@ -205,6 +207,7 @@ pub mod OwnSame
 pub mod OwnServed
 pub mod OwnServedCases
 pub mod OwnServedDrops
+pub mod OwnServedKinds
 pub mod OwnServedNew
 pub mod OwnServedOver
 pub mod OwnServedRights

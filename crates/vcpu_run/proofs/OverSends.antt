@@ -195,7 +195,7 @@ written_sends granted d d' own ask step is = record {
   entry = none_apart d'.kept step.kept;
 }
 
-written_shake : (kept : Option Kept) (answer : Kept) (entry : Entry) → KeepsShake kept ⊎ (kept ≡ Some answer) → answer ≢ keeps.Reply entry → kept ≡ Some (keeps.Reply entry) → KeepsShake kept
+pub written_shake : (kept : Option Kept) (answer : Kept) (entry : Entry) → KeepsShake kept ⊎ (kept ≡ Some answer) → answer ≢ keeps.Reply entry → kept ≡ Some (keeps.Reply entry) → KeepsShake kept
 written_shake kept answer entry (inl shake) apart is = shake
 written_shake kept answer entry (inr kept') apart is = absurd (apart (same kept answer (keeps.Reply entry) kept' is))
   where

@@ -4,6 +4,8 @@ use Rattle.std.proofs.Common.{◌≡◌, ◌≢◌, ◌∙◌, inr, ℕ, ◌<◌
 use Rattle.std.proofs.lemmas.List.Elements.{All-nil}
 use Rattle.std.proofs.lemmas.Option.{slice_get_within}
 use Rattle.vio_num.specs.declared.names.UnitId.{UnitId}
+use Rattle.crq_ring.specs.declared.rows.PipeRow.{PipeRow}
+use Rattle.crq_session.specs.PlainState.{end_of}
 use Rattle.block_server.specs.declared.unit.Unit.{Unit}
 use Rattle.boot_text.specs.Sound.{IsClientOf, IsServer}
 use Rattle.boot_text.specs.declared.plan.Line.{Line}
@@ -11,13 +13,17 @@ use Rattle.boot_text.specs.declared.plan.Partition.{Partition}
 use Rattle.boot_text.specs.declared.plan.UnitPlan.TheVariants as units
 use Rattle.lan_script.specs.declared.seat.PortSeat.{PortSeat}
 use Rattle.tce_window.specs.PlainPort.{known_of}
+use Rattle.vio_trace.specs.declared.rows.AnswerRow.{AnswerRow}
 use Rattle.vscsi_client.specs.State.{ClientState, new_client}
 use Rattle.vscsi_client.specs.declared.op.Dir.TheVariants as dirs
+use Rattle.vscsi_client.specs.declared.outgoing.Outgoing.{Outgoing}
 use Rattle.vscsi_client.specs.declared.row.Row.TheVariants as rows
 use Rattle.vcpu_run.specs.Credited.{Ended}
 use Rattle.vcpu_run.specs.DataKept.{AreAsked}
 use Rattle.vcpu_run.specs.Machines.{IsOfPlan, home_of, server_id}
+use Rattle.vcpu_run.specs.OwnClients.{IsGrantOf}
 use Rattle.vcpu_run.specs.OwnCounts.{IsLogoutDone, LieBehind}
+use Rattle.vcpu_run.specs.OwnKinds.{IsAskedTag, IsOfKind, KeepsKinds}
 use Rattle.vcpu_run.specs.OwnPairs.{IsNewOwnPair, IsReadyOwnPair, SparesLines}
 use Rattle.vcpu_run.specs.OwnRuns.{AreOwn}
 use Rattle.vcpu_run.specs.PlainClients.{granted_in}
@@ -47,6 +53,19 @@ none_inward id server tag at len (said, is) = absurd (no_command (sym (empty_row
   where
     no_command : rows.Login ≡ rows.Command dirs.In at len said → ⊥
     no_command e = cc (e)
+
+-- nothing was put, noted, or is under way
+no_kinds : (id server : UnitId) (driver : Driver) (sent : List PipeRow) → driver.client ≡ new_client id server → driver.answers.items ≡ [] → sent ≡ []
+    → KeepsKinds driver.client driver.answers.items sent
+no_kinds id server driver sent client answers none =
+    subst (λ (s : ClientState). KeepsKinds s driver.answers.items sent) (sym client)
+    (subst (λ (list : List AnswerRow). KeepsKinds (new_client id server) list sent) (sym answers)
+    (subst (KeepsKinds (new_client id server) []) (sym none) (record {
+      asked = All-nil (λ (o : Outgoing). IsAskedTag [] o.tag);
+      answered = All-nil (λ (row : AnswerRow). IsAskedTag [] row.tag);
+      login = tt;
+      put = All-nil (λ (row : PipeRow). IsOfKind [] row.entry);
+    })))
 
 own_new : (granted u : ℕ) (told : List Ended) (lines : List Line) (home k : ℕ) (list : List Unit) (line : Option Line) (p : Progress) (now : Replay) (pair : Pair) (driver : Driver) → SparesLines u lines now → told ≡ [] → UnitsStart granted home list
     → granted ≤ 200 → k < length list → pair.driver ≡ Some driver → driver.unit ≢ server_id home k → IsOpened pair driver → StandsAt granted u line p now pair
@@ -79,7 +98,9 @@ own_new granted u told lines home k list line p now pair driver spares none star
         noted = subst (All (IsLaidAnswer pair.window.unit (known_of pair.window).strokes)) (sym opened.answers) (All-nil (IsLaidAnswer pair.window.unit (known_of pair.window).strokes));
         behind = subst (λ (s : ClientState). LieBehind s.rows) (sym opened.client) (none_inward driver.unit opened.server);
         logout = subst IsLogoutDone (sym opened.client) tt;
+        kinds = no_kinds driver.unit opened.server driver (end_of [] pair.link true).sent opened.client opened.answers opened.sent;
       };
+      numbers = subst (All (λ (e : Ended). IsGrantOf granted e.outcome)) (sym none) (All-nil (λ (e : Ended). IsGrantOf granted e.outcome));
     }
 
 pub boots_own : (granted home : ℕ) (partitions : List Partition) (pairs : List Pair) (scripts : List Script) (ports : List PortSeat) (list : List Unit) → home ≡ home_of partitions → granted ≤ 200

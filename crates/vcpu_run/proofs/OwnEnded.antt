@@ -92,6 +92,7 @@ own_next granted failed told lines home u k books words line o next p pair found
   driver_is = is.driver_is;
   how = by is.how;
   keeps = is.keeps;
+  numbers = is.numbers;
 }
   where
     by : TalksOwn granted told lines home u k books words o p is.unit is.driver pair ⊎ IsOverOwn granted failed told home u k books o p is.unit is.driver pair
@@ -114,6 +115,7 @@ new_next granted told lines home u k books line o next p pair found goes other i
   stands = stands_next granted u next is.now pair (stands_other granted u line o p is.now pair found goes other is.stands);
   sent = is.sent;
   keeps = is.keeps;
+  numbers = is.numbers;
 }
 
 ready_next : (granted : ℕ) (told : List Ended) (lines : List Line) (home u k : ℕ) (books : ServerBooks) (line : Line) (o next : Option Line) (p : Progress) (pair : Pair)

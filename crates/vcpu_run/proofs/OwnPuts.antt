@@ -13,7 +13,7 @@ use Rattle.crq_session.specs.EndState.{EndState}
 use Rattle.srp_iu.specs.declared.unit.Iu.{Iu}
 use Rattle.tce_window.specs.PortState.{PortState}
 use Rattle.block_server.specs.Doings.{Doing, KeepsEntry, PutsEntry, entry_for, rows_to}
-use Rattle.block_server.specs.Talk.{MayWriteAnswer}
+use Rattle.block_server.specs.Talk.{MayWriteAnswer, Suits, order_asked}
 use Rattle.block_server.specs.declared.line.Kept.TheVariants as keeps
 use Rattle.block_server.specs.declared.request.Request.{Request}
 use Rattle.block_server.specs.declared.service.Outcome.{Outcome}
@@ -105,6 +105,13 @@ over_first granted d outcome ask more over =
       subst (λ (one : Ask). AnswerStands granted d.id d.client one (length d.answer) outcome over.answer) same over.stands,
       subst (λ (one : Ask). MayWriteAnswer d.client (slot_address one.slot)) same over.may,
     )
+
+-- what it answers suits what is asked there
+pub over_suits : (granted : ℕ) (d : Doing) (outcome : Outcome) (ask : Ask) (more : List Ask) → StandsOver granted d outcome (ask ∷ more)
+    → (current : ℕ) × Suits current (order_asked ask.iu) outcome
+over_suits granted d outcome ask more over =
+    let same : over.ask ≡ ask = heads ask over.ask more over.more over.first in
+    (over.asks.0, subst (λ (one : Ask). Suits over.asks.0 (order_asked one.iu) outcome) same over.asks.1)
 
 pub puts_within : (granted : ℕ) (d d' : Doing) (s : ClientState) (own : EndState) (answered : List Ask) (ask : Ask) (more coming : List Ask) (answers : List Iu)
     → TalksWithin granted d s own answered (ask ∷ more) coming answers → (step : PutsEntry d d') → IsPendingAs step.request ask → ArePending d'.pending more

@@ -64,6 +64,7 @@ own_spared granted failed told lines home u k books books' words line p pair spa
   driver_is = is.driver_is;
   how = by is.how;
   keeps = subst (λ (list : List Served). KeepsPair told (server_id home k) list is.driver pair) (sym spares.rows) is.keeps;
+  numbers = is.numbers;
 }
   where
     by : TalksOwn granted told lines home u k books words line p is.unit is.driver pair ⊎ IsOverOwn granted failed told home u k books line p is.unit is.driver pair
@@ -86,6 +87,7 @@ new_spared granted told lines home u k books books' line p pair spares is = reco
   stands = is.stands;
   sent = is.sent;
   keeps = subst (λ (list : List Served). KeepsPair told (server_id home k) list is.driver pair) (sym spares.rows) is.keeps;
+  numbers = is.numbers;
 }
 
 ready_spared : (granted : ℕ) (told : List Ended) (lines : List Line) (home u k : ℕ) (books books' : ServerBooks) (line : Option Line) (p : Progress) (pair : Pair)

@@ -95,6 +95,7 @@ stands_over granted old new outcome pending pending' id same oldest keeps rights
   ask = is.ask;
   more = (oldest.same is.ask is.more is.first).0;
   first = (oldest.same is.ask is.more is.first).1;
+  asks = is.asks;
   answer = is.answer;
   stands = answer_stands granted old.id new.id old.client new.client is.ask (length old.answer) (length new.answer) outcome is.answer id (ap (λ (bytes : List ℕ). length bytes) same)
       (All-head IsAsk is.ask is.more (subst (All IsAsk) is.first each)) keeps is.stands;

@@ -36,4 +36,4 @@ serves_own home k books books' a b old new same turns does talks granted u told 
         → IsServedOwnPair granted told lines home u k books' line p new
     by (inl both) = talks granted u failed told lines words line p is both
     by (inr over) =
-        (failed, served_over granted failed told lines home u k books books' a b line p is.unit is.driver old new is.there is.id is.driver_is same turns does over is.keeps)
+        (failed, served_over granted failed told lines home u k books books' a b line p is.unit is.driver old new is.there is.id is.driver_is same turns does over is.keeps is.numbers)

@@ -25,6 +25,7 @@ use Rattle.vscsi_client.specs.declared.stage.Stage.TheVariants.{Idle, Written}
 use Rattle.vcpu_run.specs.Credited.{Ended}
 use Rattle.vcpu_run.specs.Machines.{server_id}
 use Rattle.vcpu_run.specs.OwnActs.{IsSettled}
+use Rattle.vcpu_run.specs.OwnClients.{IsGrantOf}
 use Rattle.vcpu_run.specs.OwnCounts.{IsLogoutDone, KeepsPair}
 use Rattle.vcpu_run.specs.OwnDoing.{DoesAt, HeardAt}
 use Rattle.vcpu_run.specs.OwnPairs.{ComesOver, IsMidLogin, IsOwnPair, RestsIdle, StandsOver, TalksOwn, doing_of}
@@ -47,10 +48,11 @@ use Rattle.vcpu_run.proofs.OverServed.{ServesPair, of_served, owes_own}
 use Rattle.vcpu_run.proofs.OwnDrops.{answers_srp}
 use Rattle.vcpu_run.proofs.OwnOwes.{OwesBoth, OwesEither, OwesTalks, either_turn, owes_begins}
 use Rattle.vcpu_run.proofs.OwnServedCases.{ServesTalk}
+use Rattle.vcpu_run.proofs.OwnServedKinds.{PutOfKind}
 use Rattle.vcpu_run.proofs.OwnServedOver.{pair_served}
 use Rattle.vcpu_run.proofs.OwnServedRights.{own_talks}
 use Rattle.vcpu_run.proofs.OwnServedRows.{kept_begins, kept_served}
-use Rattle.vcpu_run.proofs.OwnServedSplit.{calm_rests, does_there, talks_kept}
+use Rattle.vcpu_run.proofs.OwnServedSplit.{calm_rests, does_there, talks_kept, talks_put}
 use Rattle.vcpu_run.proofs.OwnServedTags.{KeepsTags}
 use Rattle.vcpu_run.proofs.OwnStrokes.{turn_strokes}
 use Rattle.vcpu_run.proofs.PlainPaired.{TurnsOn, idle_side}
@@ -115,6 +117,7 @@ pub record DropsTo (many granted home k : ℕ) (books' : ServerBooks) (unit' : U
   pub owes : OwesOver many granted false (doing_of unit' home k books' new) driver.client (end_of [] old.link false)
   pub rows : KeepsRows (doing_of unit' home k books' new) driver.client
   pub tags : KeepsTags (doing_of unit' home k books' new) driver.client
+  pub put : PutOfKind (doing_of unit' home k books' new) driver.client
 
 pub served_drops : (granted : ℕ) (told : List Ended) (lines : List Line) (home u k : ℕ) (books books' : ServerBooks) (a b : List GName) (words : List Word) (line : Option Line) (p : Progress)
     (asked : AskedParts) (answers : List Iu) (unit unit' : Unit) (driver : Driver) (old new : Pair) → slice_get books.units k ≡ Some unit → slice_get books'.units k ≡ Some unit'
@@ -123,8 +126,9 @@ pub served_drops : (granted : ℕ) (told : List Ended) (lines : List Line) (home
     → DoesAt (server_id home k) books books' k (end_of a old.link true) (end_of b new.link true) (known_of old.window) (known_of new.window)
     → DoesTurn (doing_of unit home k books old) (doing_of unit' home k books' new) → TalksOwn granted told lines home u k books words line p unit driver old
     → IsTalking granted (between_of unit driver old) words asked answers → DropsTo (granted_in told) granted home k books' unit' driver old new
-    → KeepsPair told (server_id home k) (rows_by (server_id home k) books.rows) driver old → IsOwnPair granted false told lines home u k books' [] line p new
-served_drops granted told lines home u k books books' a b words line p asked answers unit unit' driver old new there there' id driver_is same turns does turn is talk drops keeps = record {
+    → KeepsPair told (server_id home k) (rows_by (server_id home k) books.rows) driver old → All (λ e. IsGrantOf granted e.outcome) told
+    → IsOwnPair granted false told lines home u k books' [] line p new
+served_drops granted told lines home u k books books' a b words line p asked answers unit unit' driver old new there there' id driver_is same turns does turn is talk drops keeps numbers = record {
   unit = unit';
   there = there';
   id = id';
@@ -143,7 +147,8 @@ served_drops granted told lines home u k books books' a b words line p asked ans
   keeps = kept_served told home k books books' unit' driver old new id' turns.window_place
       (turn_strokes (doing_of unit home k books old) (doing_of unit' home k books' new) turn.does)
       (rests_none granted false (doing_of unit' home k books' new) driver.client (end_of [] new.link false) behind.over turn.rests) drops.rows
-      (subst (λ (one : UnitId). All (λ tag. tag ≤ length driver.client.rows) (map row_tag (rows_by one books'.rows))) id' drops.tags) keeps;
+      (subst (λ (one : UnitId). All (λ tag. tag ≤ length driver.client.rows) (map row_tag (rows_by one books'.rows))) id' drops.tags) drops.put keeps;
+  numbers = numbers;
 }
   where
     calm : IsCalm granted (between_of unit driver old) words
@@ -181,10 +186,11 @@ pub talks_or_drops : (granted : ℕ) (told : List Ended) (lines : List Line) (ho
     → TurnsOn (server_id home k) books books' k (end_of a old.link true) (end_of b new.link true) (known_of old.window) (known_of new.window)
     → DoesAt (server_id home k) books books' k (end_of a old.link true) (end_of b new.link true) (known_of old.window) (known_of new.window)
     → TalksOwn granted told lines home u k books words line p unit driver old → KeepsPair told (server_id home k) (rows_by (server_id home k) books.rows) driver old
-    → (asked : AskedParts) (answers : List Iu) → IsTalking granted (between_of unit driver old) words asked answers
+    → All (λ e. IsGrantOf granted e.outcome) told → (asked : AskedParts) (answers : List Iu) → IsTalking granted (between_of unit driver old) words asked answers
     → StillTalks granted (doing_of unit' home k books' new) driver.client (end_of [] old.link false) asked.coming (asked.pending ++ asked.coming)
     ⊎ IsOwnPair granted false told lines home u k books' [] line p new
-talks_or_drops granted told lines home u k books books' a b words line p unit unit' driver old new there there' id driver_is same turns does is keeps asked answers talk = split both.0 both.1
+talks_or_drops granted told lines home u k books books' a b words line p unit unit' driver old new there there' id driver_is same turns does is keeps numbers asked answers talk =
+    split both.0 both.1
   where
     turn : DoesTurn (doing_of unit home k books old) (doing_of unit' home k books' new)
     turn = does_there home k books books' a b unit unit' driver old new there there' does (calm_rests granted home k books words unit driver old is.talks.calm)
@@ -200,6 +206,9 @@ talks_or_drops granted told lines home u k books books' a b words line p unit un
     tags : KeepsTags (doing_of unit' home k books' new) driver.client
     tags = (talks_kept granted told home k books books' words asked answers unit unit' driver old new id is.talks.calm talk is.talks.tabled turn keeps).2
 
+    put : PutOfKind (doing_of unit' home k books' new) driver.client
+    put = talks_put granted told home k books books' words asked answers unit unit' driver old new id is.talks.calm talk is.talks.tabled turn keeps
+
     split : OwesEither (granted_in told) granted (doing_of unit' home k books' new) driver.client (end_of [] old.link false) asked.coming (asked.pending ++ asked.coming)
         → KeepsRows (doing_of unit' home k books' new) driver.client
         → StillTalks granted (doing_of unit' home k books' new) driver.client (end_of [] old.link false) asked.coming (asked.pending ++ asked.coming)
@@ -207,7 +216,7 @@ talks_or_drops granted told lines home u k books books' a b words line p unit un
     split (inl talks) rows = inl talks.still
     split (inr over) rows =
         inr (served_drops granted told lines home u k books books' a b words line p asked answers unit unit' driver old new there there' id driver_is same turns does turn is talk
-        (record { owes = over; rows = rows; tags = tags }) keeps)
+        (record { owes = over; rows = rows; tags = tags; put = put }) keeps numbers)
 
 -- The turn of a pair where the two talk: they talk behind it, or the session is over.
 pub talks_served : (home k many : ℕ) (books books' : ServerBooks) (a b : List GName) (old new : Pair) → new.driver ≡ old.driver → ∥ LinesMore (server_id home k) many books.lines books'.lines ∥₁
@@ -218,5 +227,7 @@ talks_served home k many books books' a b old new same more turns does heard gra
     let on = does.does is.unit is.there (calm_rests granted home k books words is.unit is.driver old talks.talks.calm) in (
       false,
       own_talks granted false told lines home u k many books books' a b words line p is.unit on.unit' is.driver old new is.there on.there is.id is.driver_is same more turns does heard talks is.keeps
-          (talks_or_drops granted told lines home u k books books' a b words line p is.unit on.unit' is.driver old new is.there on.there is.id is.driver_is same turns does talks is.keeps),
+          is.numbers
+          (talks_or_drops granted told lines home u k books books' a b words line p is.unit on.unit' is.driver old new is.there on.there is.id is.driver_is same turns does talks is.keeps
+          is.numbers),
     )

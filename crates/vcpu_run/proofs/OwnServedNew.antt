@@ -1,14 +1,16 @@
 -- The first turn of the server unit at an own client's pair: behind it the two talk, and nothing is to come.
-use Rattle.std.proofs.Common.{◌≡◌, ◌∙◌, inl, ℕ, List, [], Option, false, true, ap, arith}
+use Rattle.std.proofs.Common.{◌≡◌, ◌∙◌, inl, ℕ, All, List, [], Option, false, true, sym, ap, subst, arith}
 use Rattle.std.specs.Borrow.{GName}
 use Rattle.boot_text.specs.declared.plan.Line.{Line}
 use Rattle.vio_num.specs.declared.names.UnitId.{UnitId}
+use Rattle.crq_ring.specs.declared.rows.PipeRow.{PipeRow}
 use Rattle.crq_session.specs.PlainState.{end_of}
 use Rattle.tce_window.specs.PlainPort.{known_of}
 use Rattle.tce_window.specs.PortState.{PortState}
 use Rattle.block_server.specs.Ranges.{known_in}
 use Rattle.vcpu_run.specs.Credited.{Ended}
 use Rattle.vcpu_run.specs.Machines.{server_id}
+use Rattle.vcpu_run.specs.OwnKinds.{IsOfKind}
 use Rattle.vcpu_run.specs.OwnPairs.{IsNewOwnPair, IsOwnPair}
 use Rattle.vcpu_run.specs.PlainBorne.{rows_by}
 use Rattle.vcpu_run.specs.PlainClients.{grants_of}
@@ -39,7 +41,9 @@ served_new granted told lines home u k name books books' a b line p old new driv
         (failed_still old new driver opens.registered turns.window_place (λ page. ap (λ (port : PortState). port.strokes page) opens.window)) driver opens.registered is.stands;
   });
   keeps = kept_same told (server_id home k) (rows_by (server_id home k) books.rows) (rows_by (server_id home k) books'.rows) is.driver old new turns.window_place
-      (ap known_in opens.window) (ap (rows_by (server_id home k)) opens.rows_are) is.keeps;
+      (ap known_in opens.window) (ap (rows_by (server_id home k)) opens.rows_are)
+      (subst (λ (sent : List PipeRow). All (λ (row : PipeRow). IsOfKind is.driver.client.rows row.entry) sent) (sym opens.sent) is.keeps.kinds.put) is.keeps;
+  numbers = is.numbers;
 }
   where
     opens : OpenedBetween granted k books books' is.unit is.driver old new

@@ -14,6 +14,7 @@ use Rattle.block_server.specs.RowsOn.{row_tag}
 use Rattle.block_server.specs.declared.unit.Unit.{Unit}
 use Rattle.vcpu_run.specs.Credited.{Ended}
 use Rattle.vcpu_run.specs.Machines.{server_id}
+use Rattle.vcpu_run.specs.OwnClients.{IsGrantOf}
 use Rattle.vcpu_run.specs.OwnCounts.{KeepsPair}
 use Rattle.vcpu_run.specs.OwnDoing.{DoesAt}
 use Rattle.vcpu_run.specs.OwnOver.{IsOver}
@@ -28,6 +29,7 @@ use Rattle.vcpu_run.specs.declared.script.Progress.{Progress}
 use Rattle.vcpu_run.proofs.OverRows.{over_rows_turn}
 use Rattle.vcpu_run.proofs.OverSameRows.{over_same_turn, rests_none}
 use Rattle.vcpu_run.proofs.OverServed.{ServesPair, over_served}
+use Rattle.vcpu_run.proofs.OwnServedKinds.{kinds_over_turn}
 use Rattle.vcpu_run.proofs.OwnServedRows.{kept_begins, kept_served}
 use Rattle.vcpu_run.proofs.OwnStrokes.{turn_strokes}
 use Rattle.vcpu_run.proofs.PlainPaired.{TurnsOn, client_stays}
@@ -96,8 +98,8 @@ pub served_over : (granted : ℕ) (failed : Bool) (told : List Ended) (lines : L
     → TurnsOn (server_id home k) books books' k (end_of a old.link true) (end_of b new.link true) (known_of old.window) (known_of new.window)
     → DoesAt (server_id home k) books books' k (end_of a old.link true) (end_of b new.link true) (known_of old.window) (known_of new.window)
     → IsOverOwn granted failed told home u k books line p unit driver old → KeepsPair told (server_id home k) (rows_by (server_id home k) books.rows) driver old
-    → IsOwnPair granted failed told lines home u k books' [] line p new
-served_over granted failed told lines home u k books books' a b line p unit driver old new there id driver_is same turns does over keeps = record {
+    → All (λ e. IsGrantOf granted e.outcome) told → IsOwnPair granted failed told lines home u k books' [] line p new
+served_over granted failed told lines home u k books books' a b line p unit driver old new there id driver_is same turns does over keeps numbers = record {
   unit = on.unit';
   there = on.there;
   id = id';
@@ -107,7 +109,9 @@ served_over granted failed told lines home u k books books' a b line p unit driv
   keeps = kept_served told home k books books' on.unit' driver old new id' turns.window_place
       (turn_strokes (doing_of unit home k books old) (doing_of on.unit' home k books' new) turn.does)
       (rests_none granted failed (doing_of on.unit' home k books' new) driver.client (end_of [] new.link false) behind.over behind.rests) laid
-      (subst (λ (rows : List Served). All (λ tag. tag ≤ length driver.client.rows) (map row_tag (rows_by (server_id home k) rows))) (sym rows_are) keeps.counted.most) keeps;
+      (subst (λ (rows : List Served). All (λ tag. tag ≤ length driver.client.rows) (map row_tag (rows_by (server_id home k) rows))) (sym rows_are) keeps.counted.most)
+      (kinds_over_turn granted failed (doing_of unit home k books old) (doing_of on.unit' home k books' new) driver.client (end_of [] old.link false) over.over keeps.kinds.login turn.does keeps.kinds.put) keeps;
+  numbers = numbers;
 }
   where
     on : UnitDoes books'.units k unit (server_id home k) (end_of a old.link true) (end_of b new.link true) (known_of old.window) (known_of new.window) books.rows books'.rows books.lines books'.lines

@@ -4,7 +4,10 @@ use Rattle.std.proofs.Common.{◌≡◌, ◌∙◌, ◌⊎◌, ◌≤◌, ◌++�
 use Rattle.std.specs.Borrow.{GName}
 use Rattle.boot_text.specs.declared.plan.Line.{Line}
 use Rattle.vio_num.specs.declared.names.UnitId.{UnitId}
+use Rattle.vio_num.specs.declared.history.Grant.{Grant}
+use Rattle.crq_ring.specs.declared.rows.PipeRow.{PipeRow}
 use Rattle.crq_session.specs.Answered.{taken_now}
+use Rattle.crq_session.specs.EndState.{EndState}
 use Rattle.crq_session.specs.PlainState.{end_of}
 use Rattle.srp_iu.specs.declared.unit.Iu.{Iu}
 use Rattle.tce_window.specs.PlainPort.{known_of}
@@ -13,12 +16,15 @@ use Rattle.block_server.specs.Judged.{row_in}
 use Rattle.block_server.specs.Ranges.{known_in}
 use Rattle.block_server.specs.Receipts.{LinesMore}
 use Rattle.block_server.specs.RowsOn.{row_tag}
-use Rattle.block_server.specs.Talk.{HearsAll, Talk, Word, talk_of}
+use Rattle.block_server.specs.Talk.{HearsAll, ServesNext, Talk, Word, talk_of}
 use Rattle.block_server.specs.declared.unit.Unit.{Unit}
+use Rattle.vscsi_client.specs.State.{ClientState}
 use Rattle.vcpu_run.specs.Credited.{Ended}
 use Rattle.vcpu_run.specs.Machines.{server_id}
+use Rattle.vcpu_run.specs.OwnClients.{IsGrantOf}
 use Rattle.vcpu_run.specs.OwnCounts.{KeepsPair}
 use Rattle.vcpu_run.specs.OwnDoing.{DoesAt, HeardAt}
+use Rattle.vcpu_run.specs.OwnKinds.{IsOfKind}
 use Rattle.vcpu_run.specs.OwnPairs.{IsOwnPair, TalksOwn, doing_of}
 use Rattle.vcpu_run.specs.OwnTurns.{StillTalks}
 use Rattle.vcpu_run.specs.PlainBorne.{rows_by}
@@ -30,12 +36,14 @@ use Rattle.vcpu_run.specs.declared.script.Progress.{Progress}
 use Rattle.vcpu_run.proofs.Listed.{some_is}
 use Rattle.vcpu_run.proofs.OwnQuiet.{away_rights, beginning_rights, rights_ready}
 use Rattle.vcpu_run.proofs.OwnReady.{HasItsRights}
+use Rattle.vcpu_run.proofs.OwnServedKinds.{kinds_heard}
 use Rattle.vcpu_run.proofs.OwnServedRows.{kept_same, kept_served}
-use Rattle.vcpu_run.proofs.OwnServedSplit.{calm_rests, does_there, still_rights, talks_kept}
+use Rattle.vcpu_run.proofs.OwnServedSplit.{calm_rests, does_there, still_rights, talks_kept, talks_put}
 use Rattle.vcpu_run.proofs.OwnServedTalks.{TurnsTalk, served_rights, turns_talk}
 use Rattle.vcpu_run.proofs.OwnStrokes.{turn_strokes}
 use Rattle.vcpu_run.proofs.PlainPaired.{TurnsOn}
 use Rattle.vcpu_run.proofs.PlainTurned.{lent_at, talk_lent, talks_lent}
+use Rattle.vcpu_run.proofs.PlainTurns.{Turns}
 
 -- ---- before both have heard of one another
 
@@ -57,15 +65,28 @@ begun_none at words begun = by begun.heard
     by (inl one) = subst (HearsNothing at) (sym one.0) (λ talk heard. ap (λ (t : Talk). t.pending) heard.2 ∙ ap (λ (t : Talk). t.pending) heard.1 ∙ begun.vacant.pending)
     by (inr none) = subst (HearsNothing at) (sym none.0) (λ talk heard. ap (λ (t : Talk). t.pending) heard ∙ begun.vacant.pending)
 
+-- only what tells that it has heard of the client was put then
+none_put : (s : ClientState) (lines lines' : List Grant) (words : List Word) (at at' : Between) → (turn : Turns at at' lines lines' words) → turn.middle.pending.items ≡ []
+    → All (λ (row : PipeRow). IsOfKind s.rows row.entry) at.server.sent → All (λ (row : PipeRow). IsOfKind s.rows row.entry) at'.server.sent
+none_put s lines lines' words at at' turn none put = by turn.serves
+  where
+    heard : All (λ (row : PipeRow). IsOfKind s.rows row.entry) turn.between.queue.sent
+    heard = kinds_heard s at.server turn.between.queue words turn.hears.put put
+
+    by : ServesNext turn.middle at'.unit turn.between.queue at'.server turn.added lines' → All (λ (row : PipeRow). IsOfKind s.rows row.entry) at'.server.sent
+    by (inl nothing) = subst (λ (e : EndState). All (λ (row : PipeRow). IsOfKind s.rows row.entry) e.sent) (sym nothing.queue) heard
+    by (inr (request, rest, items, first)) = absurd (cc (none, items))
+
 none_kept : (told : List Ended) (home k : ℕ) (name : UnitId) (books books' : ServerBooks) (a b : List GName) (words : List Word) (unit unit' : Unit) (driver : Driver) (old new : Pair)
     → (known_of new.window).place ≡ (known_of old.window).place
     → TurnsTalk name books books' words (lent_at a [] (between_of unit driver old)) (lent_at b [] (between_of unit' driver new)) → HearsNothing (lent_at a [] (between_of unit driver old)) words
     → KeepsPair told (server_id home k) (rows_by (server_id home k) books.rows) driver old → KeepsPair told (server_id home k) (rows_by (server_id home k) books'.rows) driver new
 none_kept told home k name books books' a b words unit unit' driver old new place on nothing keeps =
-    let none = nothing (talk_of on.turn.middle) on.turn.hears.heard in
+    let none : on.turn.middle.pending.items ≡ [] = nothing (talk_of on.turn.middle) on.turn.hears.heard in
     kept_same told (server_id home k) (rows_by (server_id home k) books.rows) (rows_by (server_id home k) books'.rows) driver old new place
     (some_is (known_in (known_of new.window)) (known_in (known_of old.window)) (on.wrote.none (talk_of on.turn.middle) on.turn.hears.heard none))
-    (ap (rows_by (server_id home k)) (on.rows.none (talk_of on.turn.middle) on.turn.hears.heard none)) keeps
+    (ap (rows_by (server_id home k)) (on.rows.none (talk_of on.turn.middle) on.turn.hears.heard none))
+    (none_put driver.client books.lines books'.lines words (lent_at a [] (between_of unit driver old)) (lent_at b [] (between_of unit' driver new)) on.turn none keeps.kinds.put) keeps
 
 -- ---- the turn
 
@@ -75,8 +96,9 @@ pub own_rights : (granted : ℕ) (failed : Bool) (told : List Ended) (lines : Li
     → TurnsOn (server_id home k) books books' k (end_of a old.link true) (end_of b new.link true) (known_of old.window) (known_of new.window)
     → DoesAt (server_id home k) books books' k (end_of a old.link true) (end_of b new.link true) (known_of old.window) (known_of new.window)
     → HasItsRights (lent_at a [] (between_of unit driver old)) words → TalksOwn granted told lines home u k books words line p unit driver old
-    → KeepsPair told (server_id home k) (rows_by (server_id home k) books.rows) driver old → IsOwnPair granted failed told lines home u k books' [] line p new
-own_rights granted failed told lines home u k many books books' a b words line p unit unit' driver old new there there' id driver_is same more turns does rights is keeps = record {
+    → KeepsPair told (server_id home k) (rows_by (server_id home k) books.rows) driver old → All (λ e. IsGrantOf granted e.outcome) told
+    → IsOwnPair granted failed told lines home u k books' [] line p new
+own_rights granted failed told lines home u k many books books' a b words line p unit unit' driver old new there there' id driver_is same more turns does rights is keeps numbers = record {
   unit = unit';
   there = there';
   id = id';
@@ -84,6 +106,7 @@ own_rights granted failed told lines home u k many books books' a b words line p
   driver_is = same ∙ driver_is;
   how = inl behind;
   keeps = by is.talks.phase;
+  numbers = numbers;
 }
   where
     at : Between
@@ -114,7 +137,8 @@ own_rights granted failed told lines home u k many books books' a b words line p
         let all = talks_kept granted told home k books books' words asked answers unit unit' driver old new id is.talks.calm talk is.talks.tabled turn keeps in
         kept_served told home k books books' unit' driver old new id' turns.window_place (turn_strokes (doing_of unit home k books old) (doing_of unit' home k books' new) turn.does)
         (ap row_in behind.talks.calm.stage) all.1
-        (subst (λ (one : UnitId). All (λ tag. tag ≤ length driver.client.rows) (map row_tag (rows_by one books'.rows))) id' all.2) keeps
+        (subst (λ (one : UnitId). All (λ tag. tag ≤ length driver.client.rows) (map row_tag (rows_by one books'.rows))) id' all.2)
+        (talks_put granted told home k books books' words asked answers unit unit' driver old new id is.talks.calm talk is.talks.tabled turn keeps) keeps
 
 -- Whatever rights there are: where the client awaits an answer, the two talk still behind the small steps, or it is said what is so else.
 pub own_talks : (granted : ℕ) (failed : Bool) (told : List Ended) (lines : List Line) (home u k many : ℕ) (books books' : ServerBooks) (a b : List GName) (words : List Word)
@@ -123,12 +147,13 @@ pub own_talks : (granted : ℕ) (failed : Bool) (told : List Ended) (lines : Lis
     → TurnsOn (server_id home k) books books' k (end_of a old.link true) (end_of b new.link true) (known_of old.window) (known_of new.window)
     → DoesAt (server_id home k) books books' k (end_of a old.link true) (end_of b new.link true) (known_of old.window) (known_of new.window)
     → HeardAt books books' k (end_of a old.link true) (end_of b new.link true) → TalksOwn granted told lines home u k books words line p unit driver old
-    → KeepsPair told (server_id home k) (rows_by (server_id home k) books.rows) driver old
+    → KeepsPair told (server_id home k) (rows_by (server_id home k) books.rows) driver old → All (λ e. IsGrantOf granted e.outcome) told
     → ((asked : AskedParts) (answers : List Iu) → IsTalking granted (between_of unit driver old) words asked answers
     → StillTalks granted (doing_of unit' home k books' new) driver.client (end_of [] old.link false) asked.coming (asked.pending ++ asked.coming)
     ⊎ IsOwnPair granted failed told lines home u k books' [] line p new)
     → IsOwnPair granted failed told lines home u k books' [] line p new
-own_talks granted failed told lines home u k many books books' a b words line p unit unit' driver old new there there' id driver_is same more turns does heard is keeps talking = by talks.phase
+own_talks granted failed told lines home u k many books books' a b words line p unit unit' driver old new there there' id driver_is same more turns does heard is keeps numbers talking =
+    by talks.phase
   where
     at : Between
     at = lent_at a [] (between_of unit driver old)
@@ -137,7 +162,7 @@ own_talks granted failed told lines home u k many books books' a b words line p 
     talks = talks_lent a [] granted (between_of unit driver old) words is.talks
 
     has : HasItsRights at words → IsOwnPair granted failed told lines home u k books' [] line p new
-    has rights = own_rights granted failed told lines home u k many books books' a b words line p unit unit' driver old new there there' id driver_is same more turns does rights is keeps
+    has rights = own_rights granted failed told lines home u k many books books' a b words line p unit unit' driver old new there there' id driver_is same more turns does rights is keeps numbers
 
     turn : DoesTurn (doing_of unit home k books old) (doing_of unit' home k books' new)
     turn = does_there home k books books' a b unit unit' driver old new there there' does (calm_rests granted home k books words unit driver old is.talks.calm)

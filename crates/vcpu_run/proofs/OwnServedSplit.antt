@@ -33,6 +33,7 @@ use Rattle.vcpu_run.proofs.OwnHeardOut.{SeesClient, said_long}
 use Rattle.vcpu_run.proofs.OwnHears.{turn_granted}
 use Rattle.vcpu_run.proofs.OwnQuiet.{away_rights, beginning_rights}
 use Rattle.vcpu_run.proofs.OwnReady.{HasItsRights, rights_told}
+use Rattle.vcpu_run.proofs.OwnServedKinds.{PutOfKind, kinds_turn}
 use Rattle.vcpu_run.proofs.OwnServedRows.{kept_begins}
 use Rattle.vcpu_run.proofs.OwnServedTags.{KeepsAll, KeepsTags, all_turn}
 use Rattle.vcpu_run.proofs.OwnStarts.{still_begins}
@@ -66,6 +67,16 @@ talks_kept granted told home k books books' words asked answers unit unit' drive
     (inl (still_begins granted (between_of unit driver old) words asked answers (server_id home k) books.rows books.lines calm talk tabled (sym id) (λ same. keeps.apart (same ∙ id))))
     (kept_begins told home k books unit driver old id (ap row_in calm.stage) keeps)
     (subst (λ (one : UnitId). All (λ tag. tag ≤ length driver.client.rows) (map row_tag (rows_by one books.rows))) (sym id) keeps.counted.most) turn.does
+
+-- What was put into its queue is of the kinds that its tags say.
+pub talks_put : (granted : ℕ) (told : List Ended) (home k : ℕ) (books books' : ServerBooks) (words : List Word) (asked : AskedParts) (answers : List Iu) (unit unit' : Unit) (driver : Driver)
+    (old new : Pair) → unit.id ≡ server_id home k → IsCalm granted (between_of unit driver old) words → IsTalking granted (between_of unit driver old) words asked answers
+    → driver.client.tabled ≡ None → DoesTurn (doing_of unit home k books old) (doing_of unit' home k books' new)
+    → KeepsPair told (server_id home k) (rows_by (server_id home k) books.rows) driver old → PutOfKind (doing_of unit' home k books' new) driver.client
+talks_put granted told home k books books' words asked answers unit unit' driver old new id calm talk tabled turn keeps =
+    kinds_turn granted (doing_of unit home k books old) (doing_of unit' home k books' new) driver.client (end_of [] old.link false) asked.coming (asked.pending ++ asked.coming)
+    (inl (still_begins granted (between_of unit driver old) words asked answers (server_id home k) books.rows books.lines calm talk tabled (sym id) (λ same. keeps.apart (same ∙ id))))
+    keeps.kinds.login turn.does keeps.kinds.put
 
 -- ---- the rights
 

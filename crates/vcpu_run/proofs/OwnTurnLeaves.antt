@@ -11,6 +11,7 @@ use Rattle.vio_trace.specs.declared.outcome.Outcome.{Outcome}
 use Rattle.vio_trace.specs.declared.outcome.Outcome.TheVariants as outcomes
 use Rattle.vcpu_run.specs.ActsAt.{EndsLine}
 use Rattle.vcpu_run.specs.Credited.{Ended}
+use Rattle.vcpu_run.specs.OwnClients.{IsGrantOf}
 use Rattle.vcpu_run.specs.PlainClients.{granted_in}
 use Rattle.vcpu_run.specs.PlainRejected.{TellsOf, TellsRejection}
 use Rattle.vcpu_run.specs.PlainScripts.{told_in}
@@ -47,6 +48,7 @@ tells_done verb who strokes = tt
 pub record ToldFailed (told told' : List Ended) : Type 0 where
   pub granted : granted_in told' ≡ granted_in told
   pub tells : (who : UnitId) (strokes : ℕ → Option (List StrokeValue)) → All (TellsOf who strokes) told → All (TellsOf who strokes) told'
+  pub numbers : (grant : ℕ) → All (λ e. IsGrantOf grant e.outcome) told → All (λ e. IsGrantOf grant e.outcome) told'
 
 pub told_fail : (u : ℕ) (pairs : List Pair) (script script' : Script) (line : Line) → IsScript pairs script → OnlyRuns script script' → slice_get script.lines.now script.at ≡ Some line
     → EndsLine line outcomes.Done script script' → ToldFailed (told_in u script) (told_in u script')
@@ -61,10 +63,15 @@ told_fail u pairs script script' line are runs found ends = by (here_or line.uni
         record {
           granted = ap granted_in is ∙ (granted_more (told_in u script) e ∙ omega arith);
           tells = λ who strokes all. subst (All (TellsOf who strokes)) (sym is) (All-push (TellsOf who strokes) (told_in u script) e all (tells_done line.verb who strokes));
+          numbers = λ grant all. subst (All (λ (one : Ended). IsGrantOf grant one.outcome)) (sym is) (All-push (λ (one : Ended). IsGrantOf grant one.outcome) (told_in u script) e all tt);
         }
     by (inr other) =
         let is = told_else u pairs script script' line outcomes.Done are runs found other ends in
-        record { granted = ap granted_in is; tells = λ who strokes all. subst (All (TellsOf who strokes)) (sym is) all }
+        record {
+          granted = ap granted_in is;
+          tells = λ who strokes all. subst (All (TellsOf who strokes)) (sym is) all;
+          numbers = λ grant all. subst (All (λ (one : Ended). IsGrantOf grant one.outcome)) (sym is) all;
+        }
 
 -- no line comes behind it
 pub none_failed : (script script' : Script) (line : Line) → fails line.verb ≡ true → EndsLine line outcomes.Done script script' → slice_get script.lines.now script'.at ≡ None

@@ -163,15 +163,16 @@ logs_pair names granted told lines home u k books line line' p p' unit a b old n
     by (turns.Busy number held) left (steps.Ends outcome) says = absurd says
     by (turns.Granted credits) left step says =
         subst (λ (s : Step). StepsOver granted told lines home u k books line line' p' unit b new s) (sym says)
-        (grants credits left.1 left.2, at.tells (outcomes.Granted credits) tt)
+        (grants credits left.1 left.2, at.tells (outcomes.Granted credits) tt, left.0)
     by (turns.Rejected reason) left step says =
         subst (λ (s : Step). StepsOver granted told lines home u k books line line' p' unit b new s) (sym says) (
           ends_none (outcomes.Rejected reason) (omega (arith, granted_more told (record { verb = line.verb; outcome = outcomes.Rejected reason }))) left.0,
           at.tells (outcomes.Rejected reason) (rejection reason left.1.1),
+          tt,
         )
     by turns.Lost left step says =
         subst (λ (s : Step). StepsOver granted told lines home u k books line line' p' unit b new s) (sym says)
-        (ends_none outcomes.Lost (omega (arith, granted_more told (record { verb = line.verb; outcome = outcomes.Lost }))) left.0, at.tells outcomes.Lost tt)
+        (ends_none outcomes.Lost (omega (arith, granted_more told (record { verb = line.verb; outcome = outcomes.Lost }))) left.0, at.tells outcomes.Lost tt, tt)
 
 -- ---- a line that logs in
 

@@ -1,10 +1,12 @@
--- What a client's line says that does not log in: it says of no login that it was granted, or rejected.
-use Rattle.std.proofs.Common.{◌≡◌, ◌⊎◌, inl, inr, ℕ, false, List, Option, Result, Ok, Err, refl, subst}
+-- What a client's line says that does not log in: it says of no login that it was granted, or rejected; and how many requests one that logs in says
+-- were granted, where it says what the replay does.
+use Rattle.std.proofs.Common.{◌≡◌, ◌⊎◌, inl, inr, ℕ, Bool, false, true, true≢false, cond, IfSome, List, Option, Result, Ok, Err, refl, sym, subst}
 use Rattle.vio_num.specs.declared.names.UnitId.{UnitId}
 use Rattle.boot_text.specs.declared.verb.Verb.{Verb}
 use Rattle.boot_text.specs.declared.verb.Verb.TheVariants as verbs
 use Rattle.vio_trace.specs.declared.outcome.Outcome.{Outcome}
 use Rattle.vio_trace.specs.declared.outcome.Outcome.TheVariants as outcomes
+use Rattle.srp_iu.specs.declared.login.TheConstants.{UNABLE_TO_ESTABLISH_CHANNEL}
 use Rattle.page_slots.specs.Stroke.{StrokeValue}
 use Rattle.unit_region.specs.declared.step.Step.{Step}
 use Rattle.unit_region.specs.declared.step.Step.TheVariants as steps
@@ -14,8 +16,10 @@ use Rattle.vscsi_client.specs.declared.answers.Refused.{Refused}
 use Rattle.vscsi_client.specs.declared.answers.Refused.TheVariants as whys
 use Rattle.vcpu_run.specs.Acts.{Acting, ActsFor, CommandsOnce, SaysAs, SaysData}
 use Rattle.vcpu_run.specs.Credited.{grants}
+use Rattle.vcpu_run.specs.OwnClients.{IsGrantOf}
 use Rattle.vcpu_run.specs.OwnSteps.{LogsIn}
 use Rattle.vcpu_run.specs.PlainRejected.{TellsRejection}
+use Rattle.vcpu_run.specs.Replay.{Replay, ends_as, forgotten, login_says}
 use Rattle.vcpu_run.specs.declared.script.Progress.{Progress}
 
 grants_or : (outcome : Outcome) → ((credits : ℕ) × (outcome ≡ outcomes.Granted credits)) ⊎ (grants outcome ≡ false)
@@ -80,6 +84,30 @@ acts_grant line verb p p' old new outcome other acts = by (grants_or outcome)
     by : ((credits : ℕ) × (outcome ≡ outcomes.Granted credits)) ⊎ (grants outcome ≡ false) → grants outcome ≡ false
     by (inr none) = none
     by (inl is) = absurd (none_grants line verb p p' old new is.0 other (subst (λ (o : Outcome). ActsFor line verb p p' old new (steps.Ends o)) is.1 acts))
+
+-- ---- how many requests a line says were granted
+
+-- one that says of no login that it was granted says no number
+none_number : (granted : ℕ) (outcome : Outcome) → grants outcome ≡ false → IsGrantOf granted outcome
+none_number granted (outcomes.Granted credits) none = absurd (true≢false none)
+none_number granted outcome none = tt
+
+pub acts_number : (granted line : ℕ) (verb : Verb) (p p' : Progress) (old new : Acting) (outcome : Outcome) → (LogsIn verb → ⊥) → ActsFor line verb p p' old new (steps.Ends outcome)
+    → IsGrantOf granted outcome
+acts_number granted line verb p p' old new outcome other acts = none_number granted outcome (acts_grant line verb p p' old new outcome other acts)
+
+-- where the replay says that a login was granted, it says that this many were
+login_number : (granted : ℕ) (now : Replay) → IsGrantOf granted (login_says granted now)
+login_number granted now = by now.is_on
+  where
+    by : (b : Bool) → IsGrantOf granted (cond b (outcomes.Rejected UNABLE_TO_ESTABLISH_CHANNEL) (outcomes.Granted granted))
+    by true = tt
+    by false = refl
+
+pub says_number : (granted pages : ℕ) (now : Replay) (verb : Verb) (outcome : Outcome) → LogsIn verb → IfSome (ends_as granted pages now verb) (λ said. outcome ≡ said) → IsGrantOf granted outcome
+says_number granted pages now verbs.Login outcome logs says = subst (IsGrantOf granted) (sym says) (login_number granted now)
+says_number granted pages now verbs.Reset outcome logs says = subst (IsGrantOf granted) (sym says) (login_number granted (forgotten now))
+says_number granted pages now verb outcome logs says = absurd logs
 
 -- ---- none says that one was rejected
 

@@ -34,7 +34,7 @@ use Rattle.vcpu_run.proofs.OwnActLines.{IsOwnVerb, LeavesOver, acts_over, comes_
 use Rattle.vcpu_run.proofs.OwnActOwn.{over_pair, rests_at, rests_idle}
 use Rattle.vcpu_run.proofs.OwnTurnEvents.{end_stays}
 use Rattle.vcpu_run.proofs.OwnTurnLeads.{goes_by}
-use Rattle.vcpu_run.proofs.OwnTurnSays.{acts_grant, none_rejects}
+use Rattle.vcpu_run.proofs.OwnTurnSays.{acts_grant, acts_number, none_rejects}
 use Rattle.vcpu_run.proofs.PlainScripted.{granted_more}
 use Rattle.vcpu_run.proofs.PlainSpared.{filtered}
 
@@ -107,4 +107,5 @@ line_steps names granted told lines home u k books line line' p p' unit a b old 
       drives is acts (told_less told (record { verb = line.verb; outcome = outcome })
       (acts_grant line.number line.verb p p' (acting_at names a old) (acting_at names b new) outcome other acts))),
   none_rejects line.verb outcome (server_id home k) (known_of new.window).strokes other,
+  acts_number granted line.number line.verb p p' (acting_at names a old) (acting_at names b new) outcome other acts,
 )

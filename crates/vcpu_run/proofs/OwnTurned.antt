@@ -5,6 +5,9 @@ use Rattle.boot_text.specs.declared.plan.Line.{Line}
 use Rattle.boot_text.specs.declared.verb.Verb.{Verb}
 use Rattle.unit_region.specs.declared.step.Step.{Step}
 use Rattle.vio_num.specs.declared.hypervisor.Moved.{Moved}
+use Rattle.crq_ring.specs.declared.rows.PipeRow.{PipeRow}
+use Rattle.crq_session.specs.PlainState.{end_of}
+use Rattle.vio_trace.specs.declared.rows.AnswerRow.{AnswerRow}
 use Rattle.vscsi_client.specs.State.{ClientState}
 use Rattle.block_server.specs.declared.unit.Unit.{Unit}
 use Rattle.vcpu_run.specs.Acts.{Acting, ActsFor, TakesRest}
@@ -14,6 +17,7 @@ use Rattle.vcpu_run.specs.Credited.{Ended}
 use Rattle.vcpu_run.specs.Machines.{server_id}
 use Rattle.vcpu_run.specs.NotedOn.{AllKeepNoted, KeepsNoted}
 use Rattle.vcpu_run.specs.OwnCounts.{IsLogoutDone, LieBehind}
+use Rattle.vcpu_run.specs.OwnKinds.{KeepsKinds}
 use Rattle.vcpu_run.specs.OwnPairs.{IsOverOwn, IsOwnPair, IsReadyOwnPair, TalksOwn}
 use Rattle.vcpu_run.specs.OwnRuns.{IsOwnSeat}
 use Rattle.vcpu_run.specs.OwnServes.{TurnsOwn}
@@ -30,6 +34,7 @@ use Rattle.vcpu_run.specs.declared.script.Script.{Script}
 use Rattle.vcpu_run.proofs.Driving.{drives_on}
 use Rattle.vcpu_run.proofs.Listed.{held_is, is_held}
 use Rattle.vcpu_run.proofs.OwnBehind.{behind_acts, behind_fails, behind_rests}
+use Rattle.vcpu_run.proofs.OwnKinds.{kinds_acts, kinds_fails, kinds_rests}
 use Rattle.vcpu_run.proofs.OwnLogouts.{logout_acts, logout_fails, logout_rests}
 use Rattle.vcpu_run.proofs.OwnTurnEvents.{over_events}
 use Rattle.vcpu_run.proofs.OwnTurnKept.{kept_turned}
@@ -42,48 +47,53 @@ use Rattle.vcpu_run.proofs.PortBytes.{no_call}
 
 -- ---- what lines keep of a client
 
--- where its commands' data lie, and that it awaits no logout while it knows of a login
-abbrev IsKept : ClientState → Type 0
-IsKept s = LieBehind s.rows × IsLogoutDone s
+-- where its commands' data lie, that it awaits no logout while it knows of a login, and of which kinds its tags are
+abbrev IsKept : List PipeRow → ClientState → List AnswerRow → Type 0
+IsKept sent s noted = LieBehind s.rows × IsLogoutDone s × KeepsKinds s noted sent
 
-acts_keep : (line : ℕ) (verb : Verb) (p p' : Progress) (old new : Acting) (step : Step) → ActsFor line verb p p' old new step → IsKept old.client → IsKept new.client
-acts_keep line verb p p' old new step acts is = (behind_acts line verb p p' old new step acts is.0, logout_acts line verb p p' old new step acts is.1)
+abbrev ActsKept : List PipeRow → Acting → Type 0
+ActsKept sent a = IsKept sent a.client a.answers
 
-fails_keep : (old new : Acting) → FailsOnce old new → IsKept old.client → IsKept new.client
-fails_keep old new fails is = (behind_fails old new fails is.0, logout_fails old new fails is.1)
+acts_keep : (sent : List PipeRow) (line : ℕ) (verb : Verb) (p p' : Progress) (old new : Acting) (step : Step) → ActsFor line verb p p' old new step → ActsKept sent old → ActsKept sent new
+acts_keep sent line verb p p' old new step acts is =
+    (behind_acts line verb p p' old new step acts is.0, logout_acts line verb p p' old new step acts is.1, kinds_acts sent line verb p p' old new step acts is.2)
 
-rests_keep : (old new : Acting) → TakesRest old new → IsKept old.client → IsKept new.client
-rests_keep old new rests is = (behind_rests old new rests is.0, logout_rests old new rests is.1)
+fails_keep : (sent : List PipeRow) (old new : Acting) → FailsOnce old new → ActsKept sent old → ActsKept sent new
+fails_keep sent old new fails is = (behind_fails old new fails is.0, logout_fails old new fails is.1, kinds_fails sent old new fails is.2)
+
+rests_keep : (sent : List PipeRow) (old new : Acting) → TakesRest old new → ActsKept sent old → ActsKept sent new
+rests_keep sent old new rests is = (behind_rests old new rests is.0, logout_rests old new rests is.1, kinds_rests sent old new rests is.2)
 
 -- so is it of the client of a pair, if it has one
-abbrev KeptAt : Option Driver → Type 0
-KeptAt o = IfSome o (λ driver. IsKept driver.client)
+abbrev KeptAt : List PipeRow → Option Driver → Type 0
+KeptAt sent o = IfSome o (λ driver. IsKept sent driver.client driver.answers.items)
 
-at_keeps : (P : Acting → Acting → Type 0) → ((old new : Acting) → P old new → IsKept old.client → IsKept new.client) → (old new : Pair) → AtPair P old new → KeptAt old.driver → KeptAt new.driver
-at_keeps P keeps old new did is = by old.driver new.driver did is
+at_keeps : (sent : List PipeRow) (P : Acting → Acting → Type 0) → ((old new : Acting) → P old new → ActsKept sent old → ActsKept sent new) → (old new : Pair) → AtPair P old new
+    → KeptAt sent old.driver → KeptAt sent new.driver
+at_keeps sent P keeps old new did is = by old.driver new.driver did is
   where
-    by : (o o' : Option Driver) → OnDrivers o o' (λ a b. (lenders : List GName) × P (acting_at lenders a old) (acting_at lenders b new)) → KeptAt o → KeptAt o'
+    by : (o o' : Option Driver) → OnDrivers o o' (λ a b. (lenders : List GName) × P (acting_at lenders a old) (acting_at lenders b new)) → KeptAt sent o → KeptAt sent o'
     by (Some a) (Some b) (lenders, one) kept = keeps (acting_at lenders a old) (acting_at lenders b new) one kept
     by None None one kept = tt
     by (Some a) None one kept = absurd one
     by None (Some b) one kept = absurd one
 
-leads_keep : (P : Acting → Acting → Type 0) → ((old new : Acting) → P old new → IsKept old.client → IsKept new.client) → (over : List Pair) (old new : Pair) → LeadsOver P over old new
-    → KeptAt old.driver → KeptAt new.driver
-leads_keep P keeps [] old new same kept = subst (λ (pair : Pair). KeptAt pair.driver) (sym same) kept
-leads_keep P keeps (next ∷ over) old new did kept = leads_keep P keeps over next new did.1 (at_keeps P keeps old next did.0 kept)
+leads_keep : (sent : List PipeRow) (P : Acting → Acting → Type 0) → ((old new : Acting) → P old new → ActsKept sent old → ActsKept sent new) → (over : List Pair) (old new : Pair) → LeadsOver P over old new
+    → KeptAt sent old.driver → KeptAt sent new.driver
+leads_keep sent P keeps [] old new same kept = subst (λ (pair : Pair). KeptAt sent pair.driver) (sym same) kept
+leads_keep sent P keeps (next ∷ over) old new did kept = leads_keep sent P keeps over next new did.1 (at_keeps sent P keeps old next did.0 kept)
 
-does_keep : (u : ℕ) (middle after : Pair) (script script' : Script) → SeatDoes u middle after script script' → KeptAt middle.driver → KeptAt after.driver
-does_keep u middle after script script' (inl rests) kept = leads_keep TakesRest rests_keep rests.acts.over middle after rests.acts.leads kept
-does_keep u middle after script script' (inr does) kept = by does.how
+does_keep : (sent : List PipeRow) (u : ℕ) (middle after : Pair) (script script' : Script) → SeatDoes u middle after script script' → KeptAt sent middle.driver → KeptAt sent after.driver
+does_keep sent u middle after script script' (inl rests) kept = leads_keep sent TakesRest (rests_keep sent) rests.acts.over middle after rests.acts.leads kept
+does_keep sent u middle after script script' (inr does) kept = by does.how
   where
     by : DoesFail does.line middle after script script'
-        ⊎ ((fails does.line.verb ≡ false) × (DoesOwn u does.line middle after script script' ⊎ DoesElse u does.line middle after script script')) → KeptAt after.driver
-    by (inl gone) = leads_keep FailsOnce fails_keep gone.acts.over middle after gone.acts.leads kept
+        ⊎ ((fails does.line.verb ≡ false) × (DoesOwn u does.line middle after script script' ⊎ DoesElse u does.line middle after script script')) → KeptAt sent after.driver
+    by (inl gone) = leads_keep sent FailsOnce (fails_keep sent) gone.acts.over middle after gone.acts.leads kept
     by (inr (goes, inl own)) =
-        at_keeps (λ a b. ActsFor does.line.number does.line.verb script.progress own.progress a b own.step)
-        (λ a b. acts_keep does.line.number does.line.verb script.progress own.progress a b own.step) middle after own.acts kept
-    by (inr (goes, inr other)) = subst (λ (pair : Pair). KeptAt pair.driver) (sym other.same) kept
+        at_keeps sent (λ a b. ActsFor does.line.number does.line.verb script.progress own.progress a b own.step)
+        (λ a b. acts_keep sent does.line.number does.line.verb script.progress own.progress a b own.step) middle after own.acts kept
+    by (inr (goes, inr other)) = subst (λ (pair : Pair). KeptAt sent pair.driver) (sym other.same) kept
 
 -- what it knew of data is noted
 goes_note : (u k : ℕ) (went : Moved) (mid new : List Pair) (script script' : Script) → IsOwnSeat script u k → GoesBy went (slice_get script.lines.now script.at) mid new script script' → AllKeepNoted mid new
@@ -121,6 +131,7 @@ over_in granted failed home u k books unit a b middle after script script' is do
   how = subst (λ (lines : List Line). OverOrTalks granted turned.failed (told_in u script') lines home u k books (slice_get lines script'.at) script'.progress unit b after)
       (ap (λ l. l.now) is.runs.lines) turned.how;
   tells = λ all. turned.tells (tells_on (server_id home k) (told_in u script) middle after is.drives all);
+  numbers = turned.numbers;
   notes = notes_turned granted failed home u k books unit a b middle after script script' is does;
 }
   where
@@ -146,7 +157,8 @@ turned_pair granted failed home u k books did old new script script' are runs ac
     keeps = kept_turned (told_in u script) (told_in u script') (server_id home k) (rows_by (server_id home k) books.rows) is.driver turned.driver at.before at.after is.driver_is turned.driver_is
         (drives_on at.before at.middle at.after at.pushed at.goes) notes
         (subst (λ (o : Option Driver). PairNotes (answers_in o) at.after) at.client.driver turned.notes)
-        (turned.tells (tells_on (server_id home k) (told_in u script) at.before at.middle at.pushed is.keeps.laid)) kept.0 kept.1 is.keeps;
+        (turned.tells (tells_on (server_id home k) (told_in u script) at.before at.middle at.pushed is.keeps.laid)) kept.0 kept.1 kept.2 is.keeps;
+    numbers = turned.numbers is.numbers;
   },
 )
   where
@@ -180,9 +192,12 @@ turned_pair granted failed home u k books did old new script script' are runs ac
     notes = acts_there KeepsNoted at.middle.driver at.after.driver is.driver turned.driver m_is turned.driver_is
         (goes_note u k acts.went acts.pairs new script script' seat acts.goes k at.middle at.after at.there at.here)
 
-    kept : IsKept turned.driver.client
-    kept = subst KeptAt turned.driver_is
-        (does_keep u at.middle at.after script script' does (subst KeptAt (sym m_is) (is.keeps.behind, is.keeps.logout)))
+    sent : List PipeRow
+    sent = (end_of [] at.before.link true).sent
+
+    kept : IsKept sent turned.driver.client turned.driver.answers.items
+    kept = subst (KeptAt sent) turned.driver_is
+        (does_keep sent u at.middle at.after script script' does (subst (KeptAt sent) (sym m_is) (is.keeps.behind, is.keeps.logout, is.keeps.kinds)))
 
 -- ---- in a script
 

@@ -17,7 +17,7 @@ use Rattle.vcpu_run.specs.ActsAt.{EndsLine, StepLeaves, acting_at}
 use Rattle.vcpu_run.specs.Agreed.{OnDrivers}
 use Rattle.vcpu_run.specs.Credited.{Ended}
 use Rattle.vcpu_run.specs.Machines.{server_id}
-use Rattle.vcpu_run.specs.OwnClients.{IsOwnClient}
+use Rattle.vcpu_run.specs.OwnClients.{IsGrantOf, IsOwnClient}
 use Rattle.vcpu_run.specs.OwnPairs.{IsOverOwn}
 use Rattle.vcpu_run.specs.OwnSteps.{LogsIn}
 use Rattle.vcpu_run.specs.OwnTurned.{OverOrTalks, StepsOver}
@@ -40,11 +40,13 @@ use Rattle.vcpu_run.proofs.OwnTurnOver.{over_other, over_takes}
 use Rattle.vcpu_run.proofs.OwnTurnSeats.{DoesElse, DoesFail, DoesOwn, DoesRest, SeatDoes}
 use Rattle.vcpu_run.proofs.OwnTurnSteps.{line_steps, not_failed, own_verb}
 
--- What comes of it: it is so still, or the two talk. What was told before, and stands in the window, is told on.
+-- What comes of it: it is so still, or the two talk. What was told before, and stands in the window, is told on; and each login that is told was
+-- granted is one of this many requests, if each was before.
 pub record TurnedOver (granted home u k : ℕ) (books : ServerBooks) (unit : Unit) (b : Driver) (after : Pair) (told : List Ended) (script' : Script) : Type 0 where
   pub failed : Bool
   pub how : OverOrTalks granted failed (told_in u script') script'.lines.now home u k books (slice_get script'.lines.now script'.at) script'.progress unit b after
   pub tells : All (TellsOf (server_id home k) (known_of after.window).strokes) told → All (TellsOf (server_id home k) (known_of after.window).strokes) (told_in u script')
+  pub numbers : All (λ e. IsGrantOf granted e.outcome) told → All (λ e. IsGrantOf granted e.outcome) (told_in u script')
 
 -- What is so of a client behind the events.
 pub record StandsIn (granted : ℕ) (failed : Bool) (home u k : ℕ) (books : ServerBooks) (unit : Unit) (a b : Driver) (middle after : Pair) (script script' : Script) : Type 0 where
@@ -70,6 +72,7 @@ rest_turned granted failed home u k books unit a b middle after script script' i
           (over_takes granted failed (told_in u script) home u k books script.progress unit a b middle after is.was is.there is.drives does.acts
           (subst (λ (o : Option Line). IsOverOwn granted failed (told_in u script) home u k books o script.progress unit a middle) does.none is.over)));
       tells = λ all. all;
+      numbers = λ all. all;
     })
 
 -- ---- the partition fails
@@ -95,6 +98,7 @@ fail_turned granted failed home u k books unit a b middle after script script' l
           failed = on.failed;
           how = inr (subst (λ (o : Option Line). IsOverOwn granted on.failed (told_in u script) home u k books o script.progress unit b after) (sym found) on.over);
           tells = λ all. all;
+          numbers = λ all. all;
         })
     by (inr (ends, off)) =
         let none : slice_get script'.lines.now script'.at ≡ None =
@@ -102,7 +106,7 @@ fail_turned granted failed home u k books unit a b middle after script script' l
         let last : ToldFailed (told_in u script) (told_in u script') = told_fail u is.pairs script script' line is.are is.runs found ends in
         let on : FailedOver granted (told_in u script') home u k books (slice_get script'.lines.now script'.at) script'.progress unit b after =
         fails_to (slice_get script'.lines.now script'.at) script'.progress (told_in u script') (inr none) (omega (arith, last.granted)) in
-        record { failed = on.failed; how = inr on.over; tells = last.tells (server_id home k) (known_of after.window).strokes }
+        record { failed = on.failed; how = inr on.over; tells = last.tells (server_id home k) (known_of after.window).strokes; numbers = last.numbers granted }
 
 -- ---- a line of the unit
 
@@ -149,6 +153,7 @@ own_turned granted failed home u k books unit a b middle after script script' li
       failed = false;
       how = inr (subst (λ (o : Option Line). IsOverOwn granted false (told_in u script) home u k books o does.progress unit b after) (sym found) on);
       tells = λ all. all;
+      numbers = λ all. all;
     })
     by (steps.Ends outcome) on leaves =
         let e : Ended = record { verb = line.verb; outcome = outcome } in
@@ -160,6 +165,7 @@ own_turned granted failed home u k books unit a b middle after script script' li
               (sym leaves.fresh) on.0);
           tells = λ all. subst (All (TellsOf (server_id home k) (known_of after.window).strokes)) (sym more)
               (All-push (TellsOf (server_id home k) (known_of after.window).strokes) (told_in u script) e all on.1);
+          numbers = λ all. subst (All (λ (one : Ended). IsGrantOf granted one.outcome)) (sym more) (All-push (λ (one : Ended). IsGrantOf granted one.outcome) (told_in u script) e all on.2);
         }
 
 -- ---- another unit's line
@@ -171,6 +177,7 @@ else_turned granted failed home u k books unit a b middle after script script' l
   failed = failed;
   how = inr (subst (λ (told : List Ended). IsOverOwn granted failed told home u k books (slice_get script'.lines.now script'.at) script'.progress unit b after) (sym told) here);
   tells = λ all. subst (All (TellsOf (server_id home k) (known_of after.window).strokes)) (sym told) all;
+  numbers = λ all. subst (All (λ (one : Ended). IsGrantOf granted one.outcome)) (sym told) all;
 }
   where
     same : a ≡ b

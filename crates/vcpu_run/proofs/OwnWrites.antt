@@ -126,6 +126,7 @@ writes_within granted d d' s own answered ask more coming answers talks step is 
       ask = ask;
       more = more;
       first = refl;
+      asks = (worked.current, worked.suits);
       answer = stands.0;
       stands = stands.1;
       may = usable_stays d.client d'.client Write (slot_address ask.slot) 256 (record { place = step.place; values = step.bears.values })

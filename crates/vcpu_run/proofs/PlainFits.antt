@@ -39,7 +39,8 @@ not_srp rows entry is = λ srp. absurd (true≢false (sym srp ∙ is))
 not_below : (requests : List Request) (entry : Entry) → is_srp_entry entry ≡ false → IsBelow requests entry
 not_below requests entry is = λ srp. absurd (true≢false (sym srp ∙ is))
 
-said_all : (P : Entry → Type 0) → P initialization_complete → (words : List Word) → All P (replies words)
+-- where something is so of Complete, it is so of all that is put for what is heard
+pub said_all : (P : Entry → Type 0) → P initialization_complete → (words : List Word) → All P (replies words)
 said_all P one [] = All-nil P
 said_all P one (begins ∷ words) = All-cons P initialization_complete (replies words) one (said_all P one words)
 said_all P one (gone ∷ words) = said_all P one words

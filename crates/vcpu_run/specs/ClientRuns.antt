@@ -35,7 +35,7 @@ AreClients granted home = AreClientsTo granted home 0
 -- What the trace of a run tells of both, where a login grants so many requests.
 pub record ClientsTell (granted : ℕ) (partitions : List Partition) (trace : Trace) : Type 0 where
   pub scripted : PlainClientsAreScripted granted partitions trace
-  pub own : OwnClientsTell partitions trace
+  pub own : OwnClientsTell granted partitions trace
 
 -- What the end of a line that waits leaves of plain clients, and of own clients, at these pairs.
 pub record EndsClients (pairs : List Pair) (script script' : Script) : Type 0 where

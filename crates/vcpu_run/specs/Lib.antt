@@ -60,6 +60,7 @@ pub mod OwnActs
 pub mod OwnClients
 pub mod OwnCounts
 pub mod OwnJoins
+pub mod OwnKinds
 pub mod OwnOver
 pub mod OwnPairs
 pub mod OwnQuiets

@@ -1,6 +1,7 @@
 -- What an own client asked, counted by its rows; and what is so at its pair, whatever stands between it and its server unit.
-use Rattle.std.specs.Prelude.{◌≡◌, ◌≢◌, ◌≤◌, ℕ, All, IfSome, List, None, length, map}
+use Rattle.std.specs.Prelude.{◌≡◌, ◌≢◌, ◌≤◌, ℕ, All, IfSome, List, [], None, length, map, true}
 use Rattle.vio_num.specs.declared.history.Served.{Served}
+use Rattle.crq_session.specs.PlainState.{end_of}
 use Rattle.block_server.specs.RowsOn.{row_tag}
 use Rattle.tce_window.specs.PlainPort.{known_of}
 use Rattle.vscsi_client.specs.State.{ClientState}
@@ -9,6 +10,7 @@ use Rattle.vscsi_client.specs.declared.row.Row.{Row}
 use Rattle.vio_num.specs.declared.names.UnitId.{UnitId}
 use Rattle.vcpu_run.specs.Credited.{Ended}
 use Rattle.vcpu_run.specs.DataKept.{AreAsked, IsInwardAt}
+use Rattle.vcpu_run.specs.OwnKinds.{KeepsKinds}
 use Rattle.vcpu_run.specs.PlainBorne.{AreBorne}
 use Rattle.vcpu_run.specs.PlainNoted.{AreAnswers, AreAskedFor, IsLaidAnswer}
 use Rattle.vcpu_run.specs.PlainRejected.{TellsOf}
@@ -39,3 +41,4 @@ pub record KeepsPair (told : List Ended) (server : UnitId) (rows : List Served) 
   pub noted : All (IsLaidAnswer pair.window.unit (known_of pair.window).strokes) driver.answers.items
   pub behind : LieBehind driver.client.rows
   pub logout : IsLogoutDone driver.client
+  pub kinds : KeepsKinds driver.client driver.answers.items (end_of [] pair.link true).sent

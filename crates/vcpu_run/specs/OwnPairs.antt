@@ -16,6 +16,7 @@ use Rattle.vscsi_client.specs.State.{ClientState}
 use Rattle.vscsi_client.specs.declared.stage.Stage.TheVariants.{Idle, Written}
 use Rattle.vcpu_run.specs.Credited.{Ended}
 use Rattle.vcpu_run.specs.OwnActs.{IsSeenAt, IsSettled}
+use Rattle.vcpu_run.specs.OwnClients.{IsGrantOf}
 use Rattle.vcpu_run.specs.OwnCounts.{KeepsPair}
 use Rattle.vcpu_run.specs.OwnOver.{IsOver, is_login_due}
 use Rattle.vcpu_run.specs.PlainBorne.{rows_by}
@@ -99,6 +100,7 @@ pub record IsOwnPair (granted : ℕ) (failed : Bool) (told : List Ended) (lines 
   pub driver_is : pair.driver ≡ Some driver
   pub how : TalksOwn granted told lines home u k books words line p unit driver pair ⊎ IsOverOwn granted failed told home u k books line p unit driver pair
   pub keeps : KeepsPair told (server_id home k) (rows_by (server_id home k) books.rows) driver pair
+  pub numbers : All (λ e. IsGrantOf granted e.outcome) told
 
 -- Before the unit's first turn: neither queue is registered, the client has done nothing, and the unit is as it was made.
 pub record IsNewOwnPair (granted : ℕ) (told : List Ended) (lines : List Line) (home u k : ℕ) (books : ServerBooks) (line : Option Line) (p : Progress) (pair : Pair) : Type 0 where
@@ -114,6 +116,7 @@ pub record IsNewOwnPair (granted : ℕ) (told : List Ended) (lines : List Line) 
   pub stands : StandsAt granted u line p now pair
   pub sent : (end_of [] pair.link true).sent ≡ []
   pub keeps : KeepsPair told (server_id home k) (rows_by (server_id home k) books.rows) driver pair
+  pub numbers : All (λ e. IsGrantOf granted e.outcome) told
 
 -- Such a pair before its server unit's turn, which may be the first. Whether the client's partition failed, and what is to come, is not said.
 abbrev pub IsReadyOwnPair : (granted : ℕ) (told : List Ended) (lines : List Line) (home u k : ℕ) → ServerBooks → Option Line → Progress → Pair → Type 0

@@ -9,6 +9,7 @@ use Rattle.unit_region.specs.declared.step.Step.{Step}
 use Rattle.unit_region.specs.declared.step.Step.TheVariants as steps
 use Rattle.vcpu_run.specs.Credited.{Ended}
 use Rattle.vcpu_run.specs.Machines.{server_id}
+use Rattle.vcpu_run.specs.OwnClients.{IsGrantOf}
 use Rattle.vcpu_run.specs.OwnPairs.{IsOverOwn, TalksOwn}
 use Rattle.vcpu_run.specs.PlainPairs.{ServerBooks}
 use Rattle.vcpu_run.specs.PlainRejected.{TellsRejection}
@@ -27,9 +28,9 @@ OverOrTalks granted failed told lines home u k books line p unit driver pair =
     TalksOwn granted told lines home u k books [] line p unit driver pair ⊎ IsOverOwn granted failed told home u k books line p unit driver pair
 
 -- What a step of a line of the unit leaves: the line is to be gone on with, or it ended, and another comes, or none. What rejected a login was laid
--- by the server unit.
+-- by the server unit; and a login that was granted is one of this many requests.
 abbrev pub StepsOver : (granted : ℕ) (told : List Ended) (lines : List Line) (home u k : ℕ) → ServerBooks → Line → Option Line → Progress → Unit → Driver → Pair → Step → Type 0
 StepsOver granted told lines home u k books line line' p unit driver pair (steps.Waits did) = IsOverOwn granted false told home u k books (Some line) p unit driver pair
 StepsOver granted told lines home u k books line line' p unit driver pair (steps.Ends outcome) =
     OverOrTalks granted false (told ++ record { verb = line.verb; outcome = outcome } ∷ []) lines home u k books line' progress.Fresh unit driver pair
-    × TellsRejection line.verb outcome (server_id home k) (known_of pair.window).strokes
+    × TellsRejection line.verb outcome (server_id home k) (known_of pair.window).strokes × IsGrantOf granted outcome

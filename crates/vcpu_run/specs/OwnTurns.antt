@@ -80,11 +80,12 @@ pub record IsWorkedOut (granted : ℕ) (d : Doing) (outcome : Outcome) (pending 
   pub suits : Suits current (order_asked ask.iu) outcome
   pub answer : IsAnswerTo current granted ask.tag (order_asked ask.iu) outcome d.answer
 
--- It stands over the oldest, whose slot it might be written to.
+-- It stands over the oldest, which asks for such an answer while some login is on, or none; it might be written to the slot of that.
 pub record StandsOver (granted : ℕ) (d : Doing) (outcome : Outcome) (pending : List Ask) : Type 0 where
   pub ask : Ask
   pub more : List Ask
   pub first : pending ≡ ask ∷ more
+  pub asks : (current : ℕ) × Suits current (order_asked ask.iu) outcome
   pub answer : Iu
   pub stands : AnswerStands granted d.id d.client ask (length d.answer) outcome answer
   pub may : MayWriteAnswer d.client (slot_address ask.slot)

@@ -151,4 +151,4 @@ pub record KeepsLaw (plan : Plan) (trace : Trace) : Type 0 where
   pub law : KeepsLawOf plan.partitions trace
   pub grants : All (GrantsMany plan.grant) trace.grants
   pub scripted : PlainClientsAreScripted plan.grant plan.partitions trace
-  pub own : OwnClientsTell plan.partitions trace
+  pub own : OwnClientsTell plan.grant plan.partitions trace
