@@ -122,9 +122,6 @@ versions_from unit e n before (row ∷ rows) are = at (row.entry == e) refl (ver
 pub first_versions : (unit : UnitId) (e n : ℕ) (rows : List TceRow) → AreNumbered n [] rows → AreVersions 1 (rows_of_entry unit rows e)
 first_versions unit e n rows are = subst (λ xs. AreVersions (length xs) (rows_of_entry unit rows e)) (values_of-none e) (versions_from unit e n [] rows are)
 
-abbrev pub IsValueOf : UnitId → (e n : ℕ) → TceValueRow → Type 0
-IsValueOf unit e n row = (row.unit ≡ unit) × (row.entry ≡ e) × (n ≤ row.version)
-
 -- counted versions rise
 versions_above : (n m : ℕ) (rows : List TceValueRow) → m ≤ n → AreVersions n rows → Each (λ row. m ≤ row.version) rows
 versions_above n m [] less are = tt

@@ -1,13 +1,9 @@
 -- What the calls of a client leave of its window, and of where its data lie.
 use Rattle.std.specs.List.{list_any}
-use Rattle.std.proofs.Common.{◌≡◌, ◌∙◌, ◌||◌, inl, inr, ℕ, Bool, true, false, List, [], ◌∷◌, Option, Some, None, Result, Ok, Err, IfSome, IsSomeAnd, IfOk, IfErr, OnErr, refl, sym, ap, subst}
+use Rattle.std.proofs.Common.{◌≡◌, ◌∙◌, ◌||◌, inl, inr, ℕ, Bool, true, false, List, [], ◌∷◌, Option, Some, None, Result, Ok, Err, IfSome, IfOk, IfErr, OnErr, refl, sym, ap, subst}
 use Rattle.vio_num.specs.declared.memory.NoMemory.{NoMemory}
 use Rattle.tce_window.specs.PortState.{PortPlace, PortState}
-use Rattle.srp_iu.specs.declared.response.Rsp.{Rsp as Response}
 use Rattle.srp_iu.specs.declared.unit.Iu.{Iu}
-use Rattle.srp_iu.specs.declared.unit.Iu.TheVariants as units
-use Rattle.srp_iu.specs.Response.{FitsRsp}
-use Rattle.srp_iu.proofs.GrammarLaws.{writable}
 use Rattle.vscsi_client.specs.declared.answers.LoginTurn.{LoginTurn}
 use Rattle.vscsi_client.specs.declared.answers.Refused.{Refused}
 use Rattle.vscsi_client.specs.declared.answers.Refused.TheVariants as whys
@@ -15,7 +11,6 @@ use Rattle.vscsi_client.specs.declared.answers.Taken.{Taken}
 use Rattle.vscsi_client.specs.declared.answers.Taken.TheVariants as takens
 use Rattle.vscsi_client.specs.declared.op.Op.{Op}
 use Rattle.vscsi_client.specs.State.{ClientState}
-use Rattle.vscsi_client.specs.Slots.{Holds}
 use Rattle.vscsi_client.specs.Ports.{Ports, Write, Lays, LaysAll, WhyNotWritten, WhyNotPut}
 use Rattle.vscsi_client.specs.Sending.{Submitted, WhyNotSubmitted, Tasked, LoggedOut, Put as PutAs, PutsUnit, PutsNoUnit, WhyNotSent, command_refusal, task_refusal, logout_refusal, task_unit, logout_unit}
 use Rattle.vscsi_client.specs.Taking.{TakesEntry, TakesLater}
@@ -252,11 +247,3 @@ take_fits pages s s' old new (Err memory) taken later all = kept later
     kept : TakesLater old.crq_shared s s' old.crq new.crq → FitRows pages s'
     kept (inl h) = subst (FitRows pages) (sym h.0) all
     kept (inr h) = subst (FitRows pages) (sym h.client) all
-
--- an answer that was taken has bytes
-held_fits : (own : PortState) (slot : Option ℕ) (response : Response) → IsSomeAnd slot (λ n. Holds own n (units.Rsp response)) → FitsRsp response
-held_fits own None response h = absurd h
-held_fits own (Some slot) response h = writable h.bytes (units.Rsp response) h.spells
-
-pub answer_fits : (s s' : ClientState) (old new : Ports) (tag : ℕ) (response : Response) → TakesEntry s s' old new (takens.Answer tag response) → FitsRsp response
-answer_fits s s' old new tag response taken = held_fits new.own _ response taken.judged.judged.2

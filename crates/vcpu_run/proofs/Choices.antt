@@ -96,10 +96,6 @@ pub touching : (unit : UnitId) (from to : ℕ) (pieces : List Piece) → Dec (To
 touching unit from to [] = ℕ_discrete from to
 touching unit from to (piece ∷ pieces) = all_three (dec_lt from to) (piece_at unit from to piece) (touching unit (from + piece.len) to pieces)
 
-pub same_option : (a : Option ℕ) (n : ℕ) → Dec (a ≡ Some n)
-same_option None n = no (λ e. cc (e))
-same_option (Some m) n = map_dec (λ e. ap Some e) (λ e. cc (e)) (ℕ_discrete m n)
-
 pub granted : (values : ℕ → List ℕ) (right : Right) (piece : Piece) → Dec (IsGranted values right piece)
 granted values right piece = at (slice_get (values piece.entry) piece.version) refl
   where

@@ -1,6 +1,5 @@
 -- What a raw call returns at a client's pair: what its window and its end answered.
-use Rattle.std.proofs.Common.{◌≡◌, ◌≢◌, ◌↔◌, ◌∙◌, ◌<◌, ◌+◌, ◌/◌, ◌==◌, ◌++◌, ℕ, zero, suc, nat_le, replicate, Bool, true, false, cond, List, [], ◌∷◌, Option, Some, None, Result, Ok, Err, IfOk, IfSome, IsSome, Contains, drop, length, slice_get, refl, sym, ap, subst, arith}
-use Rattle.std.specs.Borrow.{GName}
+use Rattle.std.proofs.Common.{◌≡◌, ◌≢◌, ◌↔◌, ◌∙◌, ◌<◌, ◌+◌, ◌/◌, ◌==◌, ◌++◌, ℕ, zero, suc, replicate, Bool, true, false, cond, List, [], ◌∷◌, Option, Some, None, Result, Ok, Err, IfOk, IfSome, IsSome, Contains, drop, slice_get, refl, sym, ap, subst, arith}
 use Rattle.std.specs.Option.{option_map}
 use Rattle.std.proofs.lemmas.Bool.{eq-eqb}
 use Rattle.std.proofs.lemmas.Bool.Decides.{nat_tests}
@@ -14,11 +13,9 @@ use Rattle.vio_num.specs.declared.memory.NoMemory.{NoMemory}
 use Rattle.crq_ring.specs.declared.rows.PipeRow.{PipeRow}
 use Rattle.crq_session.specs.Answered.{Sends}
 use Rattle.crq_session.specs.EndState.{EndPlace, EndState, OnlySends}
-use Rattle.crq_session.specs.PlainState.{end_of}
 use Rattle.tce_window.specs.Answers.{gives, is_entry}
 use Rattle.tce_window.specs.PortState.{PortState, Puts, Reads}
 use Rattle.tce_window.specs.Puts.{put_into, takes, takes_all}
-use Rattle.hcall_table.specs.Asked.{bare}
 use Rattle.hcall_table.specs.Rows.{IsAnswer, may_answer}
 use Rattle.hcall_table.specs.declared.hcall.Hcall.TheVariants as rows
 use Rattle.hcall_table.specs.declared.returned.Returned.{Returned}
@@ -28,14 +25,10 @@ use Rattle.unit_region.specs.declared.entry_calls.EntryCall.{EntryCall}
 use Rattle.unit_region.specs.declared.entry_calls.EntryCall.TheVariants as entries
 use Rattle.unit_region.specs.InUse.{BusyFor}
 use Rattle.unit_region.specs.RegionLines.{AreRead, RegionSeen}
-use Rattle.vcpu_run.specs.declared.client_call.QueueCall.{QueueCall}
-use Rattle.vcpu_run.specs.declared.client_call.QueueCall.TheVariants as queues
-use Rattle.vcpu_run.specs.declared.driver.Driver.{Driver}
-use Rattle.vcpu_run.specs.declared.pair.Pair.{Pair}
-use Rattle.vcpu_run.specs.CallRows.{entry_arguments, queue_arguments, queue_row}
-use Rattle.vcpu_run.specs.CallsAnswered.{AnswersQueue, IsListPut, IsListRead, IsListUntaken, IsReturned, SendsOne, is_taken, no_client, unit_seen}
+use Rattle.vcpu_run.specs.CallRows.{entry_arguments}
+use Rattle.vcpu_run.specs.CallsAnswered.{IsListPut, IsListRead, IsListUntaken, IsReturned, SendsOne, is_taken}
 use Rattle.vcpu_run.specs.LinesShow.{IsPutBy}
-use Rattle.vcpu_run.proofs.LinesShown.{contains_first, end_sees}
+use Rattle.vcpu_run.proofs.LinesShown.{contains_first}
 use Rattle.vcpu_run.proofs.ValuesBehind.{behind_put}
 
 -- what is at a place of a list is in it
@@ -226,64 +219,6 @@ pub in_use_held : (old new : PortState) (result : Result Returned NoMemory) → 
 in_use_held old new (Ok returned) kept busy = λ e none. (busy e).held refl (sym kept ∙ none)
 in_use_held old new (Err memory) kept busy = tt
 
--- a first byte below 0x80
-le_false : (n : ℕ) → nat_le 0x80 n ≡ false → n < 0x80
-le_false n e = grind (arith, nat_tests, e)
-
-false_le : (n : ℕ) → n < 0x80 → nat_le 0x80 n ≡ false
-false_le n less = at (nat_le 0x80 n) refl
-  where
-    at : (b : Bool) → nat_le 0x80 n ≡ b → b ≡ false
-    at true e = absurd (grind (arith, nat_tests, e, less))
-    at false e = refl
-
--- a call on a client's queue, as its end answers
-pub client_queue : (pair : Pair) (lenders : List GName) (first : Bool) (call : QueueCall) (code : Hrc) (driver : Driver) → first ≡ false → pair.driver ≡ Some driver
-    → AnswersQueue false (end_of lenders pair.link first) call code → IsReturned (unit_seen (Some pair)) (queue_row call) (queue_arguments call) (bare code)
-client_queue pair lenders first (queues.Register address bytes) code driver is has answer = record { parameter = tt; refused = λ e. tt; busy = λ e. tt; done = λ good. tt }
-client_queue pair lenders first queues.Free code driver is has answer = record { parameter = tt; refused = λ e. tt; busy = λ e. tt; done = λ good. tt }
-client_queue pair lenders first queues.Enable code driver is has answer = record { parameter = tt; refused = λ e. tt; busy = λ e. tt; done = λ good. tt }
-client_queue pair lenders first (queues.Send high low) code driver is has answer =
-    let entry : Entry = record { high = high; low = low } in
-    let taken : (code ≡ codes.Parameter) ↔ (nat_le 0x80 (first_byte entry) ≡ false) =
-    (λ e. false_le (first_byte entry) (answer.parameter.0 e), λ e. answer.parameter.1 (le_false (first_byte entry) e)) in
-    record {
-      parameter = subst (λ (o : Option Driver). IfSome (is_taken rows.SendCrq (option_map (λ (driver : Driver). length pair.window.pages) o) (high ∷ low ∷ []))
-          (λ taken. (code ≡ codes.Parameter) ↔ (taken ≡ false))) (sym has) taken;
-      refused = λ e. tt;
-      busy = λ e. tt;
-      done = λ good. (end_sees pair lenders first is).entries entry (answer.put good);
-    }
-
-good_parameter : codes.Parameter ≡ codes.Success → ⊥
-good_parameter e = cc
-
--- where there is no client
-pub absent_queue : (pair : Pair) (call : QueueCall) → pair.driver ≡ None → IsReturned (unit_seen (Some pair)) (queue_row call) (queue_arguments call) (bare codes.Parameter)
-absent_queue pair (queues.Register address bytes) none = record { parameter = tt; refused = λ e. tt; busy = λ e. tt; done = λ good. tt }
-absent_queue pair queues.Free none = record { parameter = tt; refused = λ e. tt; busy = λ e. tt; done = λ good. tt }
-absent_queue pair queues.Enable none = record { parameter = tt; refused = λ e. tt; busy = λ e. tt; done = λ good. tt }
-absent_queue pair (queues.Send high low) none = record {
-  parameter = subst (λ (o : Option Driver). IfSome (is_taken rows.SendCrq (option_map (λ (driver : Driver). length pair.window.pages) o) (high ∷ low ∷ []))
-      (λ taken. (codes.Parameter ≡ codes.Parameter) ↔ (taken ≡ false))) (sym none) (λ e. refl, λ e. refl);
-  refused = λ e. tt;
-  busy = λ e. tt;
-  done = λ good. absurd (good_parameter good);
-}
-
--- at a unit that is no client
-pub other_entry : (call : EntryCall) (returned : Returned) → IsReturned no_client (entry_row call) (entry_arguments call) returned
-other_entry (entries.Get address) returned = record { parameter = tt; refused = λ e. tt; busy = λ e. tt; done = λ good. tt }
-other_entry (entries.Put address value) returned = record { parameter = tt; refused = λ e. tt; busy = λ e. tt; done = λ good. tt }
-other_entry (entries.Stuff address value count) returned = record { parameter = tt; refused = λ e. tt; busy = λ e. tt; done = λ good j less. tt }
-other_entry (entries.PutList address list count) returned = record { parameter = tt; refused = λ e. tt; busy = λ e. tt; done = λ good. tt }
-
-pub other_queue : (call : QueueCall) → IsReturned no_client (queue_row call) (queue_arguments call) (bare codes.Parameter)
-other_queue (queues.Register address bytes) = record { parameter = tt; refused = λ e. tt; busy = λ e. tt; done = λ good. tt }
-other_queue queues.Free = record { parameter = tt; refused = λ e. tt; busy = λ e. tt; done = λ good. tt }
-other_queue queues.Enable = record { parameter = tt; refused = λ e. tt; busy = λ e. tt; done = λ good. tt }
-other_queue (queues.Send high low) = record { parameter = (λ e. refl, λ e. refl); refused = λ e. tt; busy = λ e. tt; done = λ good. tt }
-
 -- an entry that an end sent
 pub sent_by : (shared : Bool) (old new : EndState) (entry : Entry) (number : ℕ) → OnlySends shared old new → Sends shared old entry new number → IsPutBy shared new entry
 sent_by shared old new entry number rest sends =
@@ -297,10 +232,3 @@ pub sends_one : (shared : Bool) (new : EndState) (entry : Entry) (result : Resul
     → IfOk result (λ code. code ≡ codes.Success → IsPutBy shared new entry) → IfOk result (SendsOne shared new entry)
 sends_one shared new entry (Ok code) parameter put = record { parameter = parameter; put = put }
 sends_one shared new entry (Err memory) parameter put = tt
-
--- the same of what was answered, if anything was
-pub client_queue_ok : (pair : Pair) (lenders : List GName) (first : Bool) (call : QueueCall) (result : Result Hrc NoMemory) (driver : Driver) → first ≡ false → pair.driver ≡ Some driver
-    → IfOk result (AnswersQueue false (end_of lenders pair.link first) call)
-    → IfOk result (λ code. IsReturned (unit_seen (Some pair)) (queue_row call) (queue_arguments call) (bare code))
-client_queue_ok pair lenders first call (Ok code) driver is has answer = client_queue pair lenders first call code driver is has answer
-client_queue_ok pair lenders first call (Err memory) driver is has answer = tt

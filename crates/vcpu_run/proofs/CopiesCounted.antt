@@ -1,5 +1,5 @@
 -- Which copies were made as lines ended stays as more are made, and a line more.
-use Rattle.std.proofs.Common.{◌≡◌, ℕ, ◌<◌, ◌≤◌, ◌++◌, All, Bool, Contains, true, false, List, [], ◌∷◌, Option, cond, length, nat_lt, refl, sym, ap, subst, arith, take, length-append}
+use Rattle.std.proofs.Common.{◌≡◌, ℕ, ◌<◌, ◌≤◌, ◌++◌, All, Bool, Contains, true, false, List, [], ◌∷◌, Option, cond, length, nat_lt, refl, sym, ap, subst, arith, length-append}
 use Rattle.std.proofs.lemmas.Bool.Decides.{nat_tests}
 use Rattle.std.proofs.lemmas.List.{take-append-le, take_all}
 use Rattle.vio_num.specs.declared.names.UnitId.{UnitId}

@@ -30,7 +30,7 @@ use Rattle.vscsi_client.specs.Sending.{Submitted, WhyNotSubmitted, Tasked, Logge
 use Rattle.vscsi_client.specs.Spans.{op_in_range, first_sharing}
 use Rattle.vscsi_client.specs.State.{ClientState}
 use Rattle.vscsi_client.specs.Taking.{TakesEntry, without_tag}
-use Rattle.vscsi_client.specs.Turned.{Site, LoginStep, Registered, Took, TookNone, Looked, Began, Wrote, NotWritten, Put, RanOut, Steps, Runs, Turned, NoneEnds, Ends, ends_turn, is_dropped, sent_by, sent_stage, unlinked}
+use Rattle.vscsi_client.specs.Turned.{Site, LoginStep, Registered, Took, TookNone, Looked, Began, Wrote, NotWritten, Put, RanOut, Steps, Runs, Turned, NoneEnds, Ends, ends_turn, is_dropped, sent_by, sent_stage}
 use Rattle.vscsi_client.proofs.Laws.{not_range}
 use Rattle.unit_region.specs.declared.step.Step.{Step}
 use Rattle.unit_region.specs.declared.step.Step.TheVariants as steps
@@ -292,30 +292,6 @@ pub took_by : (s s' : ClientState) (old new : Ports) (taken : Taken) (tag : ℕ)
     → TakesEntry s s' old new taken → AnswersOne s s'
 took_by s s' old new taken tag response is h = took_answer s s' old new tag response (subst (TakesEntry s s' old new) is h)
 
-pub took_other : (s s' : ClientState) (old new : Ports) → TakesEntry s s' old new takens.Other → SameCredits s s'
-took_other s s' old new taken = record {
-  granted = ap (λ (t : ClientState). t.granted) taken.judged.client ∙ ap (λ (t : ClientState). t.granted) taken.fetched.client;
-  outgoing = ap (λ (t : ClientState). t.outgoing) taken.judged.client ∙ ap (λ (t : ClientState). t.outgoing) taken.fetched.client;
-}
-
-pub took_stray : (s s' : ClientState) (old new : Ports) (tag : ℕ) → TakesEntry s s' old new (takens.Stray tag) → SameCredits s s'
-took_stray s s' old new tag taken = record {
-  granted = ap (λ (t : ClientState). t.granted) taken.judged.client ∙ ap (λ (t : ClientState). t.granted) taken.fetched.client;
-  outgoing = ap (λ (t : ClientState). t.outgoing) taken.judged.client ∙ ap (λ (t : ClientState). t.outgoing) taken.fetched.client;
-}
-
-pub took_again : (s s' : ClientState) (old new : Ports) (page word : ℕ) → TakesEntry s s' old new (takens.Again page word) → SameCredits s s'
-took_again s s' old new page word taken = record {
-  granted = ap (λ (t : ClientState). t.granted) taken.judged.client ∙ ap (λ (t : ClientState). t.granted) taken.fetched.client;
-  outgoing = ap (λ (t : ClientState). t.outgoing) taken.judged.client ∙ ap (λ (t : ClientState). t.outgoing) taken.fetched.client;
-}
-
-pub took_lost : (s s' : ClientState) (old new : Ports) → TakesEntry s s' old new takens.Lost → s'.granted ≡ None
-took_lost s s' old new taken = ap (λ (t : ClientState). t.granted) taken.judged.client
-
-pub took_none : (s s' : ClientState) (old new : Ports) (number : ℕ) → TakesEntry s s' old new (takens.Empty number) → SameCredits s s'
-took_none s s' old new number taken = same_by s s' taken.fetched.client
-
 -- a line that takes
 took_back : (n taken : ℕ) (g : Option ℕ) (credit : Option Credit) → IfSome g (λ granted. IsSomeAnd credit (λ c. (granted ≡ min c.granted 200) × (c.outstanding ≤ n + taken)))
     → IfSome g (λ granted. IsSomeAnd (gives_back taken credit) (λ c. (granted ≡ min c.granted 200) × (c.outstanding ≤ n + 0)))
@@ -357,10 +333,6 @@ pub took_agreed : (verb : Verb) (taken taken' : ℕ) (s s' : ClientState) → Ta
 took_agreed verb taken taken' s s' takes = λ fresh credit within agrees.
     (back_within taken' credit within, took_back (length s'.outgoing) taken' s'.granted credit (takes credit agrees))
 
-pub lost_agreed : (verb : Verb) (taken taken' count : ℕ) (s s' : ClientState) → s'.granted ≡ None
-    → StepsAgreed verb taken taken' s s' (Ok (steps.Ends (outcomes.TookThenLost count)))
-lost_agreed verb taken taken' count s s' none = λ fresh credit within agrees. (tt, agrees_none 0 None s' none)
-
 pub waits_agreed : (verb : Verb) (taken taken' : ℕ) (s s' : ClientState) (did : Moved) → is_take verb ≡ true → TakesOn taken taken' s s'
     → StepsAgreed verb taken taken' s s' (Ok (steps.Waits did))
 waits_agreed verb taken taken' s s' did is takes = λ fresh. ((λ e. absurd (true_false (is_take verb) is e)), takes)
@@ -379,17 +351,9 @@ pub fresh_from : (verb : Verb) (taken : ℕ) (s s' : ClientState) (result : Resu
 fresh_from verb taken s s' (Ok step) is h = λ fresh. subst (λ n. KeepsAgreed verb n 0 s s' step) (sym (fresh is)) (h (λ e. refl))
 fresh_from verb taken s s' (Err memory) is h = tt
 
-pub waits_fresh : (verb : Verb) (taken : ℕ) (s s' : ClientState) (did : Moved) → is_take verb ≡ false → SameCredits s s'
-    → StepsAgreed verb taken 0 s s' (Ok (steps.Waits did))
-waits_fresh verb taken s s' did is same =
-    fresh_from verb taken s s' (Ok (steps.Waits did)) is (λ fresh. ((λ e. refl), λ credit agrees. agrees_same 0 credit s s' same agrees))
-
 pub plain_fresh : (verb : Verb) (taken : ℕ) (s s' : ClientState) (result : Result Step NoMemory) → is_take verb ≡ false → SameCredits s s' → IsPlain result
     → StepsAgreed verb taken taken s s' result
 plain_fresh verb taken s s' result is same plain = fresh_both verb taken s s' result is (plain_agreed verb 0 s s' result refl same plain)
-
-pub unlinked_same : (s s' : ClientState) → s' ≡ unlinked s → SameCredits s s'
-unlinked_same s s' is = record { granted = ap (λ (t : ClientState). t.granted) is; outgoing = ap (λ (t : ClientState). t.outgoing) is }
 
 -- a line that sends a command uses a credit, and takes nothing
 pub sends_one : (verb : Verb) → sends verb ≡ true → (uses_credit verb ≡ true) × (is_take verb ≡ false)

@@ -1,5 +1,5 @@
 -- Rows of a count of sessions, entries or pages, taken from the end; and the sessions of rows that stand in order.
-use Rattle.std.proofs.Common.{◌≡◌, ◌∙◌, ℕ, ◌+◌, ◌<◌, List, [], ◌∷◌, ◌++◌, Option, None, All, length, take, get_or, sym, ap, subst, arith, append-nil, append_assoc, zero, suc}
+use Rattle.std.proofs.Common.{◌≡◌, ◌∙◌, ℕ, ◌+◌, ◌<◌, List, [], ◌∷◌, ◌++◌, Option, All, length, take, get_or, sym, ap, subst, arith, append-nil, append_assoc, zero, suc}
 use Rattle.std.specs.List.{flat_map}
 use Rattle.std.proofs.Math.Seq.{take-suc}
 use Rattle.std.proofs.lemmas.Grind.{flat_map-append}
@@ -14,7 +14,6 @@ use Rattle.vio_trace.specs.declared.rows.DropRow.{DropRow as TraceDrop}
 use Rattle.vio_trace.specs.declared.rows.QueueRow.{QueueRow}
 use Rattle.vcpu_run.specs.Sessions.{drops_of, entries_of, session_row, sessions_from}
 use Rattle.vcpu_run.specs.Numbered.{numbered}
-use Rattle.vcpu_run.specs.Gathered.{rows_if}
 use Rattle.vcpu_run.specs.Windows.{rows_on, rows_from, rows_of_entry, values_from}
 
 pub sessions_more : (unit : UnitId) (pipe : PipeValue) (q n : ℕ)
@@ -102,10 +101,6 @@ pub row_is : (unit : UnitId) (pipe : PipeValue) (q slots : ℕ) (sent taken : Li
     → slots ≡ pipe.slots → sent ≡ entries_of q pipe.sent → taken ≡ entries_of q pipe.taken → drops ≡ drops_of q pipe.drops
     → row_of unit q slots sent taken drops ≡ session_row unit pipe q
 row_is unit pipe q slots sent taken drops e f g h = cc
-
--- a unit that has no such part has no rows of it
-pub rows_none : {Part Row : Type 0} (rows : List Row) (f : Part → List Row) (slot : Option Part) → slot ≡ None → rows ≡ rows ++ rows_if f slot
-rows_none rows f slot e = subst (λ s. rows ≡ rows ++ rows_if f s) (sym e) (sym (append-nil rows))
 
 -- one element more
 take_more : {X : Type 0} (xs : List X) (i : ℕ) (d : X) → i < length xs → take (i + 1) xs ≡ take i xs ++ get_or xs i d ∷ []

@@ -1,5 +1,5 @@
 -- What a client's data are, as far as its records tell: what was read in their range, and why they were not.
-use Rattle.std.proofs.Common.{◌≡◌, ◌∙◌, inl, inr, ℕ, ◌+◌, ◌-◌, ◌<◌, ◌≤◌, ◌==◌, nat_le, nat_lt, Bool, true, false, cond, bit_and, slice_index_or, List, [], Option, Some, None, IfSome, IsSome, MatchBool, MatchOption, length, min, take, drop, refl, sym, ap, subst, arith, append-nil}
+use Rattle.std.proofs.Common.{◌≡◌, ◌∙◌, inl, inr, ℕ, ◌+◌, ◌-◌, ◌<◌, ◌≤◌, ◌==◌, nat_le, nat_lt, Bool, true, false, cond, bit_and, slice_index_or, List, [], Option, Some, None, IfSome, IsSome, MatchBool, MatchOption, length, min, take, drop, refl, sym, ap, subst, arith}
 use Rattle.std.specs.Bool.{⊤}
 use Rattle.std.proofs.lemmas.Bool.Decides.{nat_tests}
 use Rattle.std.specs.List.{sum}
@@ -26,10 +26,9 @@ use Rattle.vscsi_client.specs.Transferred.{DataRange, FitRows, FitsRow, GivesDat
 use Rattle.vscsi_client.specs.declared.answers.DataFault.TheVariants as faults
 use Rattle.vscsi_client.specs.declared.TheConstants.{PART_BYTES}
 use Rattle.vcpu_run.specs.DataRead.{AreAllRead, AreBothRead, IsDataRead, IsDataStale, IsDataTold, IsPartRead, IsPartStale, StepReads}
-use Rattle.vcpu_run.specs.AnswersSeen.{IsFront}
 use Rattle.vcpu_run.specs.LinesShow.{Seen, seen_by}
 use Rattle.vcpu_run.proofs.Driving.{some_is}
-use Rattle.unit_region.proofs.Laws.{front_of, touched}
+use Rattle.unit_region.proofs.Laws.{touched}
 
 -- the strokes of each page in its place are a front there
 abbrev pub ShowsFronts : Seen → PortState → Type 0

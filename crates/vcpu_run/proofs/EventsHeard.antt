@@ -15,7 +15,7 @@ use Rattle.vscsi_client.specs.Login.{Finds, found_by}
 use Rattle.vscsi_client.specs.Ports.{Ports}
 use Rattle.vscsi_client.specs.Slots.{is_event}
 use Rattle.vscsi_client.specs.State.{ClientState}
-use Rattle.vscsi_client.specs.Taking.{Fetches, IsNext, Judges, TakesAs, TakesEntry, TakesLater, TakesNone, taken_by}
+use Rattle.vscsi_client.specs.Taking.{Fetches, IsNext, Judges, TakesAs, TakesEntry, TakesNone, taken_by}
 use Rattle.vscsi_client.specs.Turned.{Began, LoginStep, Looked, NotWritten, PollsNone, Put, RanOut, Registered, RegistersAs, Runs, Site, Steps, TakesNext, Took, TookNone, Turned, Wrote, freed_by, is_dropped, login_due, registered_by, sent_by, sent_stage, written_at}
 use Rattle.vscsi_client.specs.declared.answers.LoginTurn.{LoginTurn}
 use Rattle.vscsi_client.specs.declared.answers.LoginTurn.TheVariants as turns
@@ -30,9 +30,8 @@ use Rattle.unit_region.specs.declared.step.Step.{Step}
 use Rattle.unit_region.specs.declared.step.Step.TheVariants as steps
 use Rattle.vio_trace.specs.declared.outcome.Outcome.{Outcome}
 use Rattle.vio_trace.specs.declared.outcome.Outcome.TheVariants as outcomes
-use Rattle.vcpu_run.specs.declared.taking.Took.{Took as WhatCame}
 use Rattle.vcpu_run.specs.Credited.{Ended}
-use Rattle.vcpu_run.specs.EventsHeard.{AreEventsHeard, Hears, StepHears, event_if, events_among, events_taken, events_waiting, losses_told, lost_by, lost_in, lost_of, one_event}
+use Rattle.vcpu_run.specs.EventsHeard.{AreEventsHeard, Hears, StepHears, event_if, events_among, events_taken, events_waiting, losses_told, lost_in, lost_of, one_event}
 use Rattle.vcpu_run.specs.Sendings.{SaysSent, SaysTurned}
 
 -- how many events are among entries, one list behind another
@@ -298,10 +297,6 @@ takes_hear s s' old new takens.Other is = as_hears s s' old new takens.Other is
 takes_hear s s' old new (takens.Again page word) is = as_hears s s' old new (takens.Again page word) is
 takes_hear s s' old new (takens.Empty number) is = none_hears s s' old new number is
 
-pub later_hears : (shared : Bool) (s s' : ClientState) (end end' : EndState) → TakesLater shared s s' end end' → Hears 0 s s' end end'
-later_hears shared s s' end end' (inl is) = hears_as 0 s s' s end end' is.0 (hears_same s s end end' refl refl is.1)
-later_hears shared s s' end end' (inr is) = fetches_hear shared s s' end end' is
-
 -- nothing that is lost is told
 abbrev pub NoneLost : Result Step NoMemory → Type 0
 NoneLost (Ok step) = lost_in step ≡ 0
@@ -359,10 +354,6 @@ turned_hears line a b turn step turned says = subst (λ n. Hears n a.client b.cl
     lost turns.Again (steps.Ends outcome) says = absurd says
     lost (turns.Busy number held) (steps.Waits did) says = refl
     lost (turns.Busy number held) (steps.Ends outcome) says = absurd says
-
--- what is looked at, as a line took it
-pub took_hears : (took : WhatCame) (n : ℕ) (s s' : ClientState) (end end' : EndState) → n ≡ lost_by took → Hears n s s' end end' → Hears (lost_by took) s s' end end'
-took_hears took n s s' end end' same is = subst (λ m. Hears m s s' end end') same is
 
 -- the records tell one more
 pub losses_more : (own : List Ended) (e : Ended) → losses_told (own ++ e ∷ []) ≡ losses_told own + lost_of e.outcome

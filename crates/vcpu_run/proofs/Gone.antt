@@ -222,9 +222,5 @@ hears_lent f a b link lent is same hears =
 pub hears_back : (f : Bool) (a b : List GName) (link : PlainLink) → f ≡ true → HearsEvent (end_of b link f) → HearsEvent (end_of a link true)
 hears_back f a b link is hears = hears_here b a link (subst (λ d. HearsEvent (end_of b link d)) is hears)
 
-pub gone_lent : (f : Bool) (a b : List GName) (link lent : PlainLink) → f ≡ true → lent ≡ link → IsToldOfGone (end_of a link true) → IsToldOfGone (end_of b lent f)
-gone_lent f a b link lent is same gone =
-    subst (λ d. IsToldOfGone (end_of b lent d)) (sym is) (subst (λ l. IsToldOfGone (end_of b l true)) (sym same) (gone_here a b link gone))
-
 pub gone_back : (f : Bool) (a b : List GName) (link : PlainLink) → f ≡ true → IsToldOfGone (end_of b link f) → IsToldOfGone (end_of a link true)
 gone_back f a b link is gone = gone_here b a link (subst (λ d. IsToldOfGone (end_of b link d)) is gone)

@@ -4,7 +4,7 @@ use Rattle.std.specs.List.{slice_get}
 use Rattle.std.proofs.lemmas.Option.{slice_get_within, slice_get-get_or, get_or_from_slice_get}
 use Rattle.vio_num.specs.declared.names.UnitId.{UnitId}
 use Rattle.boot_text.specs.SoFar.{is_server, has_server}
-use Rattle.boot_text.specs.Sound.{AreSound, IsServer, IsSized, IsSoundPartition, unit_at, unit_in}
+use Rattle.boot_text.specs.Sound.{AreSound, IsServer, IsSoundPartition, unit_at, unit_in}
 use Rattle.boot_text.specs.declared.plan.Partition.{Partition}
 use Rattle.boot_text.specs.declared.plan.TheConstants.{MOST_UNITS}
 use Rattle.boot_text.specs.declared.plan.UnitPlan.{UnitPlan}
@@ -28,11 +28,6 @@ pub unit_found : (partition : Option Partition) (unit : ℕ) (plan : UnitPlan) �
     → (one : Partition) × (partition ≡ Some one) × (slice_get one.units unit ≡ Some plan)
 unit_found (Some one) unit plan found = (one, refl, found)
 unit_found None unit plan found = cc
-
-pub sized_at : (partitions : List Partition) (id : UnitId) (plan : UnitPlan) → AreSound partitions → unit_at partitions id ≡ Some plan → IsSized plan
-sized_at partitions id plan sound found =
-    let there = unit_found (slice_get partitions id.partition) id.unit plan found in
-    all_at IsSized there.0.units id.unit plan (partition_at partitions id.partition there.0 sound there.1).sized there.2
 
 pub unit_below : (partitions : List Partition) (id : UnitId) (plan : UnitPlan) → AreSound partitions → unit_at partitions id ≡ Some plan → id.unit < 8
 unit_below partitions id plan sound found =

@@ -150,23 +150,6 @@ login_out line x y turns.Lost (steps.Waits did) turned says queue = absurd (cc)
 login_out line x y turns.Again (steps.Waits did) turned says queue = reset_out x y (turn_tells line x y turns.Again turned) queue
 login_out line x y (turns.Busy number held) (steps.Waits did) turned says queue = reset_out x y (turn_tells line x y (turns.Busy number held) turned) queue
 
-pub steps_out : (verb : Verb) (a b : Seated) (result : Result Step NoMemory) → LeavesOut b.client result → StepsOut verb a b result
-steps_out verb a b (Ok (steps.Waits Moves)) h = tt
-steps_out verb a b (Ok (steps.Waits Quiet)) h = λ is queue. h
-steps_out verb a b (Ok (steps.Ends outcome)) h = tt
-steps_out verb a b (Err memory) h = tt
-
-pub freed_out : (verb : Verb) (a b : Seated) (result : Result Step NoMemory) → a.progress ≡ progress.Freed → ((a.client.granted ≡ None) ⊎ (a.registered ≡ false) → LeavesOut b.client result)
-    → StepsOut verb a b result
-freed_out verb a b (Ok (steps.Waits Moves)) is h = tt
-freed_out verb a b (Ok (steps.Waits Quiet)) is h = λ reset queue. h (at queue)
-  where
-    at : (a.client.granted ≡ None) ⊎ HasQueue a.progress a.registered → (a.client.granted ≡ None) ⊎ (a.registered ≡ false)
-    at (inl none) = inl none
-    at (inr has) = inr (has ∙ ap (λ (p : Progress). not (is_freed p)) is)
-freed_out verb a b (Ok (steps.Ends outcome)) is h = tt
-freed_out verb a b (Err memory) is h = tt
-
 -- a reset that finds its queue free goes on as one that freed it
 as_freed : (pages : ℕ) (own : List Ended) (s : ClientState) (p : Progress) (r r' : Bool) → r' ≡ false → IsToldAt pages own (seated s p r) → IsToldAt pages own (seated s progress.Freed r')
 as_freed pages own s p r r' none told = record {

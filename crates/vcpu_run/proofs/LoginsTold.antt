@@ -41,9 +41,6 @@ put_told due others answer s = at (is_dropped answer)
     at true = same_told s
     at false = record { granted = refl; outgoing = refl; tags = omega arith }
 
-plain_told : (s : ClientState) → SameTold s s
-plain_told s = same_told s
-
 found_told : (entry : Entry) (f : Found) (s s' : ClientState) → s' ≡ found_by entry f s → is_change f ≡ false → SameTold s s'
 found_told entry (found.Granted credits) s s' is going = absurd (cc)
 found_told entry (found.Rejected reason) s s' is going = by_client s s' _ is (record { granted = refl; outgoing = refl; tags = omega arith })

@@ -58,10 +58,6 @@ pub order_seen : (a b : Seen) (who : UnitId) (unit : ℕ) (lines : List Line) (r
     → AreSentIn b who unit lines rows entries
 order_seen a b who unit lines rows entries more is = subst (AreSentIn b who unit lines rows) (append-nil entries) (order_more a b who unit lines rows entries [] more is)
 
--- one record more: it tells of no request, or of one whose entry stands behind the others
-no_line : (line : Line) → None ≡ Some line → ⊥
-no_line line e = cc
-
 pub order_none : (a : Seen) (who : UnitId) (unit : ℕ) (lines : List Line) (rows : List LogRow) (entries : List Entry) (line : Line) (row : LogRow) → slice_get lines (length rows) ≡ Some line
     → tag_sent unit line row ≡ None → AreSentIn a who unit lines rows entries → AreSentIn a who unit lines (rows ++ row ∷ []) entries
 order_none a who unit [] rows entries line row found none is = tt

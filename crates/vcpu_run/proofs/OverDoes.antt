@@ -6,7 +6,7 @@ use Rattle.tce_window.specs.PortState.{PortState}
 use Rattle.vio_num.specs.Entry.{entry_format, first_byte, kind_of}
 use Rattle.vio_num.specs.declared.entry.Entry.{Entry}
 use Rattle.vio_num.specs.declared.names.UnitId.{UnitId}
-use Rattle.block_server.specs.Doings.{Does, DoesOne, Doing, DropsAll, IsLostBy, KeepsEntry, LeadsOver, LogsOutFirst, LosesEntry, Prepares, PutsEntry, WritesAnswer}
+use Rattle.block_server.specs.Doings.{DoesOne, Doing, DropsAll, IsLostBy, KeepsEntry, LogsOutFirst, LosesEntry, Prepares, PutsEntry, WritesAnswer}
 use Rattle.block_server.specs.Granting.{LoginState}
 use Rattle.block_server.specs.declared.request.Request.{Request}
 use Rattle.block_server.specs.declared.service.Outcome.{Outcome}
@@ -192,10 +192,3 @@ over_does granted failed d d' s own is (inr (inr (inr (inr (inr (inr (inr (inr (
 over_does granted failed d d' s own is (inr (inr (inr (inr (inr (inr (inr (inr (inr (inr (inr (inr (inr (inl step)))))))))))))) = (over_keeps granted failed d d' s own is step).over
 over_does granted failed d d' s own is (inr (inr (inr (inr (inr (inr (inr (inr (inr (inr (inr (inr (inr (inr (inl step))))))))))))))) = (over_puts granted failed d d' s own is step).over.over
 over_does granted failed d d' s own is (inr (inr (inr (inr (inr (inr (inr (inr (inr (inr (inr (inr (inr (inr (inr step))))))))))))))) = (over_loses granted failed d d' s own is step).over
-
-over_leads : (granted : ℕ) (failed : Bool) (s : ClientState) (own : EndState) (over : List Doing) (d d' : Doing) → IsOver granted failed d s own → LeadsOver over d d' → IsOver granted failed d' s own
-over_leads granted failed s own [] d d' is leads = subst (λ (x : Doing). IsOver granted failed x s own) (sym leads) is
-over_leads granted failed s own (next ∷ over) d d' is leads = over_leads granted failed s own over next d' (over_does granted failed d next s own is leads.0) leads.1
-
-pub over_turn : (granted : ℕ) (failed : Bool) (d d' : Doing) (s : ClientState) (own : EndState) → IsOver granted failed d s own → Does d d' → IsOver granted failed d' s own
-over_turn granted failed d d' s own is turn = over_leads granted failed s own turn.over d d' is turn.leads

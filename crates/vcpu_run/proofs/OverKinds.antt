@@ -1,7 +1,7 @@
 -- Kinds of entries: one of the initialisation, an event, an SRP entry; none is of two kinds.
 use Rattle.std.proofs.Common.{◌≡◌, inl, inr, ℕ, ◌==◌, ◌&&◌, Bool, true, false, cond, refl, ap, ◌∙◌, arith}
 use Rattle.std.proofs.lemmas.Bool.{eqb-true}
-use Rattle.vio_num.specs.Entry.{entry_format, first_byte, initialization_complete, initialize, is_srp_entry, kind_of, partner_freed}
+use Rattle.vio_num.specs.Entry.{entry_format, first_byte, initialization_complete, initialize, is_srp_entry, kind_of}
 use Rattle.vio_num.specs.declared.entry.Entry.{Entry}
 use Rattle.vio_num.specs.declared.entry.Kind.TheVariants.{Command, Event, Init, Reserved, Unused}
 use Rattle.block_server.specs.Closings.{is_event}
@@ -79,15 +79,6 @@ event_no_srp entry is = byte_no_srp entry 0xFF (event_byte entry is) refl
 
 pub srp_no_event : (entry : Entry) → is_srp_entry entry ≡ true → is_event entry ≡ false
 srp_no_event entry is = byte_no_event entry 0x80 (srp_byte entry is) refl
-
-pub freed_event : is_event partner_freed ≡ true
-freed_event = refl
-
-pub freed_no_srp : is_srp_entry partner_freed ≡ false
-freed_no_srp = refl
-
-pub begins_shake : IsShake initialize
-begins_shake = inl refl
 
 pub begins_apart : initialize ≡ initialization_complete → ⊥
 begins_apart same = by refl (ap (λ (e : Entry). e.high) same)

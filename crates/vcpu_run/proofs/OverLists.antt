@@ -1,5 +1,5 @@
 -- Lists of entries, one of which is put behind: which answer, which are news, and what stands behind the last event.
-use Rattle.std.proofs.Common.{◌≡◌, ◌∙◌, ◌++◌, Bool, true, false, true≢false, cond, List, [], ◌∷◌, append_assoc, refl, sym, ap}
+use Rattle.std.proofs.Common.{◌≡◌, ◌∙◌, ◌++◌, Bool, true, false, true≢false, cond, List, [], ◌∷◌, refl, sym, ap}
 use Rattle.vio_num.specs.Entry.{is_srp_entry}
 use Rattle.vio_num.specs.declared.entry.Entry.{Entry}
 use Rattle.block_server.specs.Closings.{is_event}
@@ -99,10 +99,6 @@ unanswered_last (first ∷ entries) entry isnt = (λ event. absurd (both (is_eve
     rest false isnt = isnt
 
 -- ---- it stands there
-
-pub has_more : (entry : Entry) (entries : List Entry) (last : Entry) → HasEntry entry entries → HasEntry entry (entries ++ last ∷ [])
-has_more entry entries last (front, rest, is) =
-    (front, rest ++ last ∷ [], ap (λ (list : List Entry). list ++ last ∷ []) is ∙ append_assoc front (entry ∷ rest) (last ∷ []))
 
 pub has_last : (entry : Entry) (entries : List Entry) → HasEntry entry (entries ++ entry ∷ [])
 has_last entry entries = (entries, [], refl)

@@ -1,17 +1,11 @@
 -- A turn of a server unit, where its client's queue receives what was put: the session of the unit is over behind it, or was, as before.
-use Rattle.std.proofs.Common.{◌≡◌, ◌⊎◌, inl, inr, ℕ, Bool, true, List, [], ◌∷◌, sym, subst}
+use Rattle.std.proofs.Common.{◌≡◌, ◌⊎◌, inl, inr, ℕ, Bool, true, List, [], ◌∷◌}
 use Rattle.crq_session.specs.EndState.{EndState}
-use Rattle.tce_window.specs.PortState.{PortState}
 use Rattle.vio_num.specs.declared.entry.Entry.{Entry}
-use Rattle.vio_num.specs.declared.history.Grant.{Grant}
-use Rattle.vio_num.specs.declared.history.Served.{Served}
-use Rattle.vio_num.specs.declared.names.UnitId.{UnitId}
-use Rattle.block_server.specs.Doings.{Doing, DoesTurn, IsAtRest, doing_at}
-use Rattle.block_server.specs.declared.unit.Unit.{Unit}
+use Rattle.block_server.specs.Doings.{Doing}
 use Rattle.vscsi_client.specs.State.{ClientState}
 use Rattle.vcpu_run.specs.OwnOver.{HasAsked, IsAnew, IsComing, IsGranted, IsOver, IsPrepared, IsServing, IsShut, IsTaken, IsUnheard, IsWritten, Joins, Rejoins, stream_of}
 use Rattle.vcpu_run.specs.PlainTalk.{Ask}
-use Rattle.vcpu_run.proofs.OverDoes.{over_turn}
 use Rattle.vcpu_run.proofs.OverPhases.{StandsOver}
 
 -- an end that is in the same session, and took as much
@@ -149,14 +143,6 @@ over_taken granted failed d s own own' is = record {
   phase = stands_own granted failed d s own own' (stream_of s is.rest) is.answered is.lost is.phase;
 }
 
--- It is so of the client's queue, whatever else of its end changed.
-pub over_own : (granted : ℕ) (failed : Bool) (d : Doing) (s : ClientState) (own own' : EndState) → own'.last_session ≡ own.last_session → own'.registered ≡ own.registered → own'.taken ≡ own.taken
-    → IsOver granted failed d s own → IsOver granted failed d s own'
-over_own granted failed d s own own' session registered taken is = subst (IsOver granted failed d s) (sym same) (over_taken granted failed d s own own' is)
-  where
-    same : own' ≡ as_taken own own'
-    same = λ i. record own' { last_session = session i; registered = registered i; taken = taken i }
-
 -- ---- a unit's turn, as the machine makes it
 
 -- The client and its end are as they were, but for what the end received.
@@ -164,16 +150,3 @@ pub record LeavesClient (own own' : EndState) : Type 0 where
   pub session : own'.last_session ≡ own.last_session
   pub registered : own'.registered ≡ own.registered
   pub taken : own'.taken ≡ own.taken
-
--- It leads to a state at rest, in which the session of the unit is over, or was.
-pub over_turned : (granted : ℕ) (failed : Bool) (unit unit' : Unit) (name : UnitId) (queue queue' : EndState) (client client' : PortState) (rows rows' : List Served) (lines lines' : List Grant)
-    (s s' : ClientState) (own own' : EndState) → s' ≡ s → LeavesClient own own'
-    → DoesTurn (doing_at unit name queue client rows lines) (doing_at unit' name queue' client' rows' lines')
-    → IsOver granted failed (doing_at unit name queue client rows lines) s own
-    → IsOver granted failed (doing_at unit' name queue' client' rows' lines') s' own' × IsAtRest (doing_at unit' name queue' client' rows' lines')
-over_turned granted failed unit unit' name queue queue' client client' rows rows' lines lines' s s' own own' same leaves turn is = (
-  subst (λ (c : ClientState). IsOver granted failed (doing_at unit' name queue' client' rows' lines') c own') (sym same)
-      (over_own granted failed (doing_at unit' name queue' client' rows' lines') s own own' leaves.session leaves.registered leaves.taken
-      (over_turn granted failed (doing_at unit name queue client rows lines) (doing_at unit' name queue' client' rows' lines') s own is turn.does)),
-  turn.rests,
-)

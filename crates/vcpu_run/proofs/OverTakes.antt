@@ -2,7 +2,6 @@
 use Rattle.std.proofs.Common.{◌≡◌, ◌∙◌, ◌⊎◌, inl, inr, ℕ, ◌++◌, Bool, true, List, [], ◌∷◌, length, sym, ap, subst, arith}
 use Rattle.crq_session.specs.EndState.{EndState}
 use Rattle.srp_iu.specs.Grammar.{Spells}
-use Rattle.srp_iu.specs.declared.unit.Iu.TheVariants as units
 use Rattle.tce_window.specs.PortState.{PortState}
 use Rattle.vio_num.specs.Entry.{is_srp_entry, iu_address, iu_length, srp_entry}
 use Rattle.vio_num.specs.declared.entry.Entry.{Entry}

@@ -1,12 +1,10 @@
 -- What a client's line does, but for a login, and what is done beside lines, whose server unit's session is over, or was, while no login is under
 -- way: it stays so, and what was noted another unit laid.
-use Rattle.std.proofs.Common.{◌≡◌, ◌≢◌, ◌∙◌, inl, inr, ℕ, ◌≤◌, Bool, true, true≢false, List, IfSome, Option, Err, append-nil, refl, sym, ap, subst}
+use Rattle.std.proofs.Common.{◌≡◌, ◌≢◌, ◌∙◌, inl, inr, ℕ, ◌≤◌, Bool, true, true≢false, List, Err, sym, ap, subst}
 use Rattle.vio_num.specs.Entry.{partner_freed}
-use Rattle.vio_num.specs.declared.entry.Entry.{Entry}
 use Rattle.boot_text.specs.declared.verb.Verb.TheVariants as verbs
 use Rattle.crq_session.specs.Answered.{Frees}
-use Rattle.crq_session.specs.EndState.{EndState, OnlyFrees, OnlyReserves, OnlySends}
-use Rattle.block_server.specs.Closings.{is_event}
+use Rattle.crq_session.specs.EndState.{OnlyFrees, OnlySends}
 use Rattle.block_server.specs.Doings.{Doing}
 use Rattle.unit_region.specs.Answers.{tce_of}
 use Rattle.unit_region.specs.declared.step.Step.{Step}
@@ -14,7 +12,7 @@ use Rattle.vscsi_client.specs.State.{ClientState}
 use Rattle.vscsi_client.specs.declared.TheConstants.{DATA_START}
 use Rattle.vscsi_client.specs.declared.answers.Refused.TheVariants.{NoMemory}
 use Rattle.vscsi_client.specs.declared.op.Op.{Op}
-use Rattle.vcpu_run.specs.Acts.{Acting, FindsQueueUsed, FreesQueue, LogsOutOnce, PutsValue, ReadsData, ShowsRegion, SubmitsOnce, TasksOnce, WritesRegion, with_room}
+use Rattle.vcpu_run.specs.Acts.{Acting, FindsQueueUsed, FreesQueue, LogsOutOnce, PutsValue, ReadsData, ShowsRegion, SubmitsOnce, TasksOnce, WritesRegion}
 use Rattle.vcpu_run.specs.ActsAt.{FailsOnce}
 use Rattle.vcpu_run.specs.OwnActs.{GoesOver, IsSettled, RestsOver, SameHands, SendsOnly, StaysOver}
 use Rattle.vcpu_run.specs.PlainClients.{names_own}
@@ -22,7 +20,6 @@ use Rattle.vcpu_run.proofs.OwnActAnswers.{KeepsOver}
 use Rattle.vcpu_run.proofs.OwnActAsking.{Asking}
 use Rattle.vcpu_run.proofs.OwnActCommands.{submits_over}
 use Rattle.vcpu_run.proofs.OwnActFrees.{Freeing, resets_over, unlinked_settled}
-use Rattle.vcpu_run.proofs.OwnActLooks.{over_still}
 use Rattle.vcpu_run.proofs.OwnActPushes.{failed_over}
 use Rattle.vcpu_run.proofs.OwnActRegion.{IsAtRest, data_over, puts_over, shows_over, writes_over}
 use Rattle.vcpu_run.proofs.OwnActTasks.{logs_out_over, tasks_over}
@@ -64,25 +61,6 @@ frees_line granted failed d old new rests hands frees = goes_keeps granted faile
 -- nobody else is in the queue
 pub used_line : {A : Type 0} (granted : ℕ) (failed : Bool) (d : Doing) (old new : Acting) → RestsOver granted failed d old → FindsQueueUsed old new → A
 used_line granted failed d old new rests used = absurd (true≢false (sym used.used.shared_end ∙ rests.seen.alone))
-
--- where it was not registered, room was made before the login
-pub room_line : (granted : ℕ) (failed : Bool) (d : Doing) (room : EndState) (old : Acting) → RestsOver granted failed d old → OnlyReserves old.ports.crq room
-    → GoesOver granted failed d old (with_room room old)
-room_line granted failed d room old rests ready = goes_keeps granted failed d old (with_room room old) refl (record {
-  over = over_still granted failed d old.client old.ports (with_room room old).ports rests.seen rests.over (record {
-    put = ready.sent ∙ sym (append-nil old.ports.crq.sent);
-    reached = inl refl;
-    session = ap (λ counts. counts.partner_session) ready.counts;
-    place = ready.place;
-    alone = rests.seen.alone;
-    apart = rests.seen.apart;
-    usable = rests.seen.usable;
-    idle = λ on. ready.kept ∙ rests.seen.idle (sym ready.registered ∙ on);
-    events = subst (λ (kept : Option Entry). IfSome kept (λ event. is_event event ≡ true)) (sym ready.kept) rests.seen.events;
-  }) refl (record { registered = ready.registered; session = ready.last_session; taken = ready.taken });
-  settled = rests.settled;
-  idle = rests.idle;
-})
 
 -- ---- commands, tasks and logouts
 

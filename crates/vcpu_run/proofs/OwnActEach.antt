@@ -1,6 +1,6 @@
 -- A client takes several entries, one after the other, whose server unit's session is over, or was: it stays so, and what was noted another unit
 -- laid.
-use Rattle.std.proofs.Common.{◌≡◌, ◌∙◌, ℕ, Bool, false, List, [], ◌∷◌, append-nil, inl, refl, sym, ap, subst}
+use Rattle.std.proofs.Common.{ℕ, Bool, List, [], ◌∷◌, append-nil, inl, refl, sym, subst}
 use Rattle.tce_window.specs.PortState.{OnlyReads}
 use Rattle.block_server.specs.Doings.{Doing}
 use Rattle.vio_trace.specs.declared.rows.AnswerRow.{AnswerRow}
@@ -11,11 +11,10 @@ use Rattle.vscsi_client.specs.declared.answers.Taken.TheVariants.{Again, Answer,
 use Rattle.vcpu_run.specs.Acts.{Acting, NotesTaken}
 use Rattle.vcpu_run.specs.OwnActs.{GoesOver, IsSeenAt, RestsOver, StaysOver, TakesAlone, TakesEachAlone}
 use Rattle.vcpu_run.specs.OwnOver.{IsOver}
-use Rattle.vcpu_run.specs.PlainNoted.{NotesLaid}
 use Rattle.vcpu_run.specs.declared.taking.Took.{Took}
 use Rattle.vcpu_run.proofs.OwnActAnswers.{TakesAnswer}
 use Rattle.vcpu_run.proofs.OwnActLeft.{StaysTelling, rests_on}
-use Rattle.vcpu_run.proofs.OwnActLooks.{MayLook, TakesNothing, still_telling, takes_away, takes_over}
+use Rattle.vcpu_run.proofs.OwnActLooks.{MayLook, still_telling, takes_over}
 use Rattle.vcpu_run.proofs.PlainAreLaid.{IsNotedAs, noted_laid}
 use Rattle.vcpu_run.proofs.PlainNotes.{lays_read, notes_same, windows_on}
 
@@ -107,48 +106,3 @@ pub each_over : (granted : ℕ) (failed : Bool) (d : Doing) (entries : List Took
 each_over granted failed d [] old new rests same = subst (λ (a : Acting). GoesOver granted failed d old a) (sym same) (goes_here granted failed d old rests)
 each_over granted failed d (took ∷ entries) old new rests (middle, each, last) =
     then_over granted failed d took old middle new (each_over granted failed d entries old middle rests each) last
-
--- ---- while the queue is not registered, and nothing is kept
-
--- Nothing was there.
-pub record FindsNothing (granted : ℕ) (failed : Bool) (d : Doing) (old new : Acting) : Type 0 where
-  pub over : StaysOver granted failed d new.client old.ports new.ports
-  pub client : new.client ≡ old.client
-  pub registered : new.ports.crq.registered ≡ old.ports.crq.registered
-  pub noted : NotesLaid new.ports.own.place.unit new.ports.own.strokes old.answers new.answers
-
-one_away : (granted : ℕ) (failed : Bool) (d : Doing) (took : Took) (old new : Acting) → IsSeenAt d old.ports → IsOver granted failed d old.client old.ports.crq → old.client.kept ≡ []
-    → old.ports.crq.registered ≡ false → TakesAlone took old new → FindsNothing granted failed d old new
-one_away granted failed d took old new seen over empty off takes = record {
-  over = none.over;
-  client = none.client;
-  registered = takes.crq.registered;
-  noted = noted_laid takes.once.taken new.ports.own old.answers new.answers none.laid (noted_as takes.once.taken new.ports.crq.last_session old.answers new.answers takes.once.notes);
-}
-  where
-    none : TakesNothing granted failed d old.client new.client old.ports new.ports takes.once.taken
-    none = takes_away granted failed d old.client new.client old.ports new.ports takes.once.taken (may_look granted failed d took old new seen over takes) empty off takes.once.takes
-
-then_away : (granted : ℕ) (failed : Bool) (d : Doing) (took : Took) (old middle new : Acting) → old.client.kept ≡ [] → old.ports.crq.registered ≡ false → FindsNothing granted failed d old middle
-    → TakesAlone took middle new → FindsNothing granted failed d old new
-then_away granted failed d took old middle new empty off first last = record {
-  over = stays_on granted failed failed d middle.client new.client old.ports middle.ports new.ports first.over next.over;
-  client = next.client ∙ first.client;
-  registered = next.registered ∙ first.registered;
-  noted = windows_on middle.ports.own new.ports.own old.answers middle.answers new.answers
-      (lays_read middle.ports.own new.ports.own (subst (λ b. OnlyReads b middle.ports.own new.ports.own) first.over.seen.apart last.own)) first.noted next.noted;
-}
-  where
-    next : FindsNothing granted failed first.over.left middle new
-    next = one_away granted failed first.over.left took middle new first.over.seen first.over.over (ap (λ (s : ClientState). s.kept) first.client ∙ empty) (first.registered ∙ off) last
-
-pub each_away : (granted : ℕ) (failed : Bool) (d : Doing) (entries : List Took) (old new : Acting) → IsSeenAt d old.ports → IsOver granted failed d old.client old.ports.crq → old.client.kept ≡ []
-    → old.ports.crq.registered ≡ false → TakesEachAlone entries old new → FindsNothing granted failed d old new
-each_away granted failed d [] old new seen over empty off same = subst (λ (a : Acting). FindsNothing granted failed d old a) (sym same) (record {
-  over = stays_here granted failed d old.client old.ports seen over;
-  client = refl;
-  registered = refl;
-  noted = notes_same old.ports.own.place.unit old.ports.own.strokes old.answers old.answers refl;
-})
-each_away granted failed d (took ∷ entries) old new seen over empty off (middle, each, last) =
-    then_away granted failed d took old middle new empty off (each_away granted failed d entries old middle seen over empty off each) last

@@ -1,5 +1,5 @@
 -- A client looks for an entry, whose server unit's session is over, or was: all that it may find, and a step that leaves both as they were.
-use Rattle.std.proofs.Common.{◌≡◌, ◌∙◌, ◌⊎◌, inl, inr, ℕ, ◌≤◌, Bool, true, false, true≢false, List, [], ◌∷◌, drop, length, sym, ap, ap₂, subst}
+use Rattle.std.proofs.Common.{◌≡◌, ◌∙◌, ◌⊎◌, inl, inr, ℕ, ◌≤◌, Bool, true, false, List, [], drop, length, sym, ap, ap₂, subst}
 use Rattle.vio_num.specs.Entry.{is_srp_entry}
 use Rattle.crq_ring.specs.Sessions.{of_session}
 use Rattle.crq_ring.specs.declared.rows.PipeRow.{PipeRow}
@@ -9,7 +9,7 @@ use Rattle.tce_window.specs.PortState.{OnlyReads, PortState}
 use Rattle.block_server.specs.Doings.{Doing}
 use Rattle.vscsi_client.specs.Ports.{Ports}
 use Rattle.vscsi_client.specs.State.{ClientState}
-use Rattle.vscsi_client.specs.Taking.{Fetches, IsNext, TakesAs, TakesEntry, TakesNone}
+use Rattle.vscsi_client.specs.Taking.{TakesAs, TakesEntry, TakesNone}
 use Rattle.vscsi_client.specs.declared.answers.Taken.{Taken}
 use Rattle.vscsi_client.specs.declared.answers.Taken.TheVariants.{Again, Answer, Empty, Lost, Other, Stray}
 use Rattle.vscsi_client.specs.declared.stage.Stage.TheVariants.{Idle}
@@ -19,8 +19,7 @@ use Rattle.vcpu_run.proofs.OwnActAnswers.{TakesAnswer, takes_answer}
 use Rattle.vcpu_run.proofs.OwnActLeft.{Leaves, NextOver, StaysTelling, stays_telling}
 use Rattle.vcpu_run.proofs.OwnActStill.{phase_still}
 use Rattle.vcpu_run.proofs.OwnActTakes.{Looks, takes_gone, takes_shake}
-use Rattle.vcpu_run.proofs.OwnActTaking.{TakesSo, from_next, leaves_takes, takes_so}
-use Rattle.vcpu_run.proofs.PlainAreLaid.{IsTakenLaid}
+use Rattle.vcpu_run.proofs.OwnActTaking.{TakesSo, leaves_takes, takes_so}
 
 -- ---- both are as they were
 
@@ -155,31 +154,3 @@ takes_over granted failed d s s' old new (Empty number) may settled idle takes =
   };
   laid = tt;
 }
-
--- ---- while the queue is not registered, and nothing is kept
-
--- Nothing was there.
-pub record TakesNothing (granted : ℕ) (failed : Bool) (d : Doing) (s s' : ClientState) (old new : Ports) (taken : Taken) : Type 0 where
-  pub over : StaysOver granted failed d s' old new
-  pub client : s' ≡ s
-  pub laid : IsTakenLaid taken new.own
-
-fetches_none : (s kept : ClientState) (old new : Ports) → s.kept ≡ [] → old.crq.registered ≡ false → Fetches old.crq_shared s kept old.crq new.crq → old.crq_shared ≡ false → ⊥
-fetches_none s kept old new empty off fetched alone = by (from_next s.kept old.crq new.crq fetched.entry fetched.rest (subst (λ b. IsNext s.kept b old.crq fetched.entry fetched.rest new.crq) alone fetched.next))
-  where
-    by : (s.kept ≡ fetched.entry ∷ fetched.rest) ⊎ ((s.kept ≡ []) × (fetched.rest ≡ []) × (old.crq.registered ≡ true)) → ⊥
-    by (inl some) = absurd (cc (empty, some))
-    by (inr on) = true≢false (sym on.2 ∙ off)
-
-pub takes_away : (granted : ℕ) (failed : Bool) (d : Doing) (s s' : ClientState) (old new : Ports) (taken : Taken) → MayLook granted failed d s old new → s.kept ≡ [] → old.crq.registered ≡ false
-    → TakesEntry s s' old new taken → TakesNothing granted failed d s s' old new taken
-takes_away granted failed d s s' old new (Empty number) may empty off takes = record {
-  over = takes_nothing granted failed d s s' old new number may takes;
-  client = takes.fetched.client;
-  laid = tt;
-}
-takes_away granted failed d s s' old new (Answer tag response) may empty off takes = absurd (fetches_none s takes.kept old new empty off takes.fetched may.seen.alone)
-takes_away granted failed d s s' old new (Stray tag) may empty off takes = absurd (fetches_none s takes.kept old new empty off takes.fetched may.seen.alone)
-takes_away granted failed d s s' old new Lost may empty off takes = absurd (fetches_none s takes.kept old new empty off takes.fetched may.seen.alone)
-takes_away granted failed d s s' old new Other may empty off takes = absurd (fetches_none s takes.kept old new empty off takes.fetched may.seen.alone)
-takes_away granted failed d s s' old new (Again page word) may empty off takes = absurd (fetches_none s takes.kept old new empty off takes.fetched may.seen.alone)

@@ -1,32 +1,25 @@
 -- A client sends something, or tries to, whose server unit's session is over, or was, while no login is under way: where both stand behind that,
 -- and what it leaves at the ports and in the window.
-use Rattle.std.specs.Prelude.{⊤}
-use Rattle.std.proofs.Common.{◌≡◌, ◌≢◌, ◌∙◌, ◌⊎◌, inl, inr, ℕ, ◌*◌, ◌/◌, ◌%◌, ◌<◌, ◌≤◌, ◌++◌, Bool, true, false, IfSome, IsSome, List, [], ◌∷◌, Option, Some, None, append-nil, length, refl, sym, ap, ap₂, subst}
+use Rattle.std.proofs.Common.{◌≡◌, ◌≢◌, ◌∙◌, ◌⊎◌, inl, inr, ℕ, ◌++◌, Bool, true, false, IfSome, List, [], ◌∷◌, Option, Some, None, append-nil, refl, sym, ap, ap₂, subst}
 use Rattle.std.proofs.lemmas.List.Elements.{All-nil}
-use Rattle.page_slots.specs.Stroke.{StrokeValue}
 use Rattle.vio_num.specs.Entry.{is_srp_entry}
 use Rattle.vio_num.specs.declared.entry.Entry.{Entry}
 use Rattle.crq_ring.specs.declared.rows.PipeRow.{PipeRow}
 use Rattle.crq_session.specs.Answered.{Puts as PutsEntry}
 use Rattle.crq_session.specs.EndState.{EndPlace, EndState, OnlySends}
 use Rattle.crq_session.specs.declared.handshake.Handshake.TheVariants.{Down}
-use Rattle.tce_window.specs.PortState.{LaysNone, OnlyWrites, PortState}
+use Rattle.tce_window.specs.PortState.{OnlyWrites}
 use Rattle.block_server.specs.Closings.{is_event}
 use Rattle.block_server.specs.Doings.{Doing, rows_to}
-use Rattle.unit_region.specs.RegionLines.{IsOn}
 use Rattle.vscsi_client.specs.Ports.{Ports}
 use Rattle.vscsi_client.specs.State.{ClientState}
-use Rattle.vscsi_client.specs.Units.{slot_address}
-use Rattle.vscsi_client.specs.declared.TheConstants.{DATA_START}
 use Rattle.vscsi_client.specs.declared.stage.Stage.TheVariants.{Idle}
 use Rattle.vcpu_run.specs.OwnActs.{IsSeenAt, SameHands, left_at}
 use Rattle.vcpu_run.specs.OwnOver.{EndsEarly, IsShake, WillHear}
-use Rattle.vcpu_run.specs.PlainTalk.{Ask, IsOwnEntry, IsOwnWindow, shown_on}
+use Rattle.vcpu_run.specs.PlainTalk.{Ask, IsOwnWindow}
 use Rattle.vcpu_run.proofs.OwnActLeft.{IsPhase, Leaves, early_left, idle_left, new_left, stale_left}
 use Rattle.vcpu_run.proofs.OwnActLooks.{StaysTaken}
 use Rattle.vcpu_run.proofs.OwnActPast.{phase_away}
-use Rattle.vcpu_run.proofs.PlainPuts.{LeavesWindow}
-use Rattle.vcpu_run.proofs.PlainStays.{grown_same}
 
 -- ---- where both stand
 
@@ -120,25 +113,3 @@ leaves_put d old new room entry sends own same place puts =
 
 pub leaves_none : (d : Doing) (old new : Ports) → SendsAlone d old new → IsOwnWindow new.own → new.crq.sent ≡ old.crq.sent → Leaves old new []
 leaves_none d old new sends own same = leaves_sent d old new [] sends own (same ∙ sym (append-nil old.crq.sent)) (inl refl)
-
--- ---- in the window
-
--- no stroke was laid
-pub laid_none : (old new : PortState) → IsOwnWindow old → OnlyWrites old new → LaysNone false old new → LeavesWindow (λ slot. ⊤) old new
-laid_none old new own only none = record {
-  own = record {
-    values = λ e. subst (IsOwnEntry e) (sym (ap (λ (values : ℕ → List ℕ). values e) only.values)) (own.values e);
-    size = subst (λ n. DATA_START ≤ 4096 * n) (sym (ap (λ place. place.size) only.place)) own.size;
-    most = subst (λ n. n ≤ 256) (sym (ap (λ place. place.size) only.place)) own.most;
-    there = λ p below. subst IsSome (sym (same p)) (own.there p (subst (λ n. p < n) (ap (λ place. place.size) only.place) below));
-  };
-  keeps = record {
-    strokes = λ page stroke is. subst (IsOn stroke) (sym (same page)) is;
-    unit = ap (λ place. place.unit) only.place;
-    slots = λ slot bytes within spares whole shows.
-        ap (λ (now : Option (List StrokeValue)). shown_on now (slot_address slot % 4096) (length bytes)) (same (slot_address slot / 4096)) ∙ shows;
-  };
-}
-  where
-    same : (p : ℕ) → new.strokes p ≡ old.strokes p
-    same p = grown_same (old.strokes p) (new.strokes p) (none.strokes p)

@@ -51,11 +51,6 @@ heads a b xs ys e = cc (e)
 tails : (a b : Entry) (xs ys : List Entry) → a ∷ xs ≡ b ∷ ys → xs ≡ ys
 tails a b xs ys e = cc (e)
 
-pub from_next : (kept : List Entry) (old new : EndState) (entry : Entry) (rest : List Entry) → IsNext kept false old entry rest new
-    → (kept ≡ entry ∷ rest) ⊎ ((kept ≡ []) × (rest ≡ []) × (old.registered ≡ true))
-from_next [] old new entry rest next = inr (refl, next.0, sym next.1.ready.registered ∙ next.1.taken.registered)
-from_next (first ∷ more) old new entry rest next = inl (ap₂ (λ (e : Entry) (list : List Entry). e ∷ list) (sym next.0) (sym next.1))
-
 -- Of what is kept or to come an entry was the next.
 record NextIs (sent : List PipeRow) (kept coming : List Entry) (old new : EndState) (entry : Entry) (rest : List Entry) : Type 0 where
   next : List Entry

@@ -36,7 +36,7 @@ use Rattle.vscsi_client.specs.declared.stage.Due.{Due}
 use Rattle.vscsi_client.proofs.Allowing.{not_range}
 use Rattle.unit_region.specs.declared.step.Step.{Step}
 use Rattle.vcpu_run.specs.Acts.{Acting, ActsFor, LogsInOnce, LogsOutAs, RefusesOp, ResetsFirst, ResetsOnce, SubmitsAs, TakesEach, TakesRest, TasksAs}
-use Rattle.vcpu_run.specs.ActsAt.{FailsOnce, PushesEvent}
+use Rattle.vcpu_run.specs.ActsAt.{FailsOnce}
 use Rattle.vcpu_run.specs.OwnCounts.{LieBehind}
 use Rattle.vcpu_run.specs.TagRows.{row_at}
 use Rattle.vcpu_run.specs.declared.script.Progress.{Progress}
@@ -249,9 +249,6 @@ behind_acts line (verbs.Tce entry page readable writable) p p' old new step acts
 behind_acts line verb p p' old new step acts is = commands_behind line acts.op old new acts.submits.answer acts.submits.submits is
 
 -- ---- what is done besides lines
-
-pub behind_pushed : (old new : Acting) → PushesEvent old new → LieBehind old.client.rows → LieBehind new.client.rows
-behind_pushed old new pushes is = subst IsBehind (sym pushes.client.client) is
 
 pub behind_fails : (old new : Acting) → FailsOnce old new → LieBehind old.client.rows → LieBehind new.client.rows
 behind_fails old new (inl fails) is = subst IsBehind (sym fails.client) is

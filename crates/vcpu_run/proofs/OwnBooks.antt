@@ -4,7 +4,7 @@ use Rattle.vio_num.specs.declared.entry.Entry.{Entry}
 use Rattle.vio_num.specs.declared.history.Grant.{Grant}
 use Rattle.vio_num.specs.declared.history.Served.{Served}
 use Rattle.crq_session.specs.EndState.{EndState}
-use Rattle.block_server.specs.Doings.{AwaitsRoom, Doing, IsAtRest, IsFree}
+use Rattle.block_server.specs.Doings.{Doing, IsAtRest}
 use Rattle.vscsi_client.specs.Ports.{Ports}
 use Rattle.vscsi_client.specs.State.{ClientState}
 use Rattle.vcpu_run.specs.OwnActs.{IsSeenAt}

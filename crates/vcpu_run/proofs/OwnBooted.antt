@@ -1,6 +1,6 @@
 -- Own clients of a machine before its first round: each sits at the pair of its server unit, behind that unit's script, and both are as they
 -- were made.
-use Rattle.std.proofs.Common.{◌≡◌, ◌≢◌, ◌∙◌, inr, ℕ, ◌<◌, ◌≤◌, true, true≢false, All, List, [], Option, Some, IsSomeAnd, length, slice_get, refl, sym, ap, subst, arith}
+use Rattle.std.proofs.Common.{◌≡◌, ◌≢◌, ◌∙◌, inr, ℕ, ◌<◌, ◌≤◌, true, true≢false, All, List, [], Option, Some, IsSomeAnd, length, slice_get, sym, ap, subst, arith}
 use Rattle.std.proofs.lemmas.List.Elements.{All-nil}
 use Rattle.std.proofs.lemmas.Option.{slice_get_within}
 use Rattle.vio_num.specs.declared.names.UnitId.{UnitId}

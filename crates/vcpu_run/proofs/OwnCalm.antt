@@ -1,6 +1,6 @@
 -- A client that has looked at all, and its server unit, which has nothing to do, where the unit's session is over, or was: both have heard of one
 -- another, or the client is to put its entry of the initialisation. It awaits nothing, and asked for no login.
-use Rattle.std.proofs.Common.{◌≡◌, ◌≢◌, ◌∙◌, ◌⊎◌, inl, inr, ℕ, ◌++◌, Bool, true, false, true≢false, List, [], ◌∷◌, Option, None, refl, sym, ap, ap₂}
+use Rattle.std.proofs.Common.{◌≡◌, ◌≢◌, ◌∙◌, ◌⊎◌, inl, inr, ℕ, ◌++◌, Bool, true, true≢false, List, [], ◌∷◌, Option, None, refl, sym, ap, ap₂}
 use Rattle.vio_num.specs.declared.entry.Entry.{Entry}
 use Rattle.crq_session.specs.EndState.{EndState}
 use Rattle.crq_session.specs.declared.handshake.Handshake.{Handshake}

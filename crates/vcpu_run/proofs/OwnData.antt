@@ -1,21 +1,19 @@
 -- Where a server unit lays the data-in of the oldest request within a turn: on the pages of its data, so that the slots and the tables of all others
 -- stay as they are.
-use Rattle.std.proofs.Common.{◌≡◌, ◌≢◌, ◌∙◌, ◌⊎◌, inl, inr, ℕ, zero, suc, ◌+◌, ◌-◌, ◌*◌, ◌/◌, ◌%◌, ◌<◌, ◌≤◌, ◌++◌, nat_lt, nat_le, All, Bool, true, false, cond, List, [], ◌∷◌, Option, Some, None, IsSome, append-nil, append_assoc, drop, length, refl, sym, take, take-append-drop, ap, subst, arith}
+use Rattle.std.proofs.Common.{◌≡◌, ◌∙◌, ◌⊎◌, inl, inr, ℕ, ◌+◌, ◌-◌, ◌*◌, ◌<◌, ◌≤◌, ◌++◌, nat_lt, nat_le, All, Bool, true, false, cond, List, [], ◌∷◌, Some, append-nil, append_assoc, drop, length, refl, sym, take, take-append-drop, ap, subst, arith}
 use Rattle.std.proofs.lemmas.Bool.Decides.{nat_tests}
-use Rattle.std.proofs.lemmas.List.Elements.{All-cons, All-head, All-nil, All-tail, All-weaker}
+use Rattle.std.proofs.lemmas.List.Elements.{All-cons, All-head, All-nil, All-tail}
 use Rattle.page_slots.specs.Page.{left_by, overwritten}
 use Rattle.page_slots.specs.Stroke.{StrokeValue}
 use Rattle.page_slots.specs.declared.stroke.StrokeName.{StrokeName}
 use Rattle.page_slots.proofs.Laws.{left_by-push}
 use Rattle.srp_iu.specs.declared.buffer.Desc.{Desc}
-use Rattle.tce_window.specs.PortState.{PortPlace, PortState}
-use Rattle.block_server.specs.Bearing.{BearsRow, BearsWithin, IsDataPart, IsNamedPart, NamesData, StrokeBears}
+use Rattle.tce_window.specs.PortState.{PortState}
+use Rattle.block_server.specs.Bearing.{IsNamedPart, NamesData, StrokeBears}
 use Rattle.block_server.specs.Carried.{address_of}
-use Rattle.block_server.specs.Ranges.{AddsEach, Known, known_in}
 use Rattle.block_server.specs.Standing.{stood}
 use Rattle.block_server.specs.declared.request.Order.{Order}
 use Rattle.block_server.specs.Talk.{order_asked}
-use Rattle.vscsi_client.specs.declared.TheConstants.{DATA_START}
 use Rattle.vscsi_client.specs.declared.outgoing.Span.{Span}
 use Rattle.vcpu_run.specs.PlainTalk.{Ask, DataLies, IsOwnWindow, LiesOn, shown_on}
 use Rattle.vcpu_run.proofs.PlainAnswers.{list_goes}
@@ -49,9 +47,6 @@ address_lies span (piece ∷ list) j a all is =
 pub record IsDataStroke (span : Span) (page : ℕ) (stroke : StrokeValue) : Type 0 where
   pub within : stroke.offset + length stroke.bytes ≤ 4096
   pub lies : (length stroke.bytes ≡ 0) ⊎ GoesOn span (4096 * page + stroke.offset) (length stroke.bytes)
-
-some_one : (a b : ℕ) → Some a ≡ Some b → a ≡ b
-some_one a b e = cc (e)
 
 pub data_stroke : (window : PortState) → IsOwnWindow window → (ask : Ask) → DataLies window ask → (name : StrokeName) (order : Order) → order ≡ order_asked ask.iu → (inn : List ℕ) (page : ℕ)
     (stroke : StrokeValue) → StrokeBears window.values (IsNamedPart (stood window) name order inn) page stroke → IsDataStroke ask.pages page stroke

@@ -1,8 +1,8 @@
 -- A step of a server unit within a turn, while its client talks to it, whatever rights the client's window has: both talk still, or the session is
 -- over, and the client is yet to hear of that.
-use Rattle.std.proofs.Common.{◌≡◌, ◌⊎◌, inl, inr, ℕ, false, List, [], ◌∷◌, refl, sym, subst}
+use Rattle.std.proofs.Common.{◌⊎◌, inl, inr, ℕ, false, List}
 use Rattle.crq_session.specs.EndState.{EndState}
-use Rattle.block_server.specs.Doings.{Does, DoesOne, Doing, DropsAll, KeepsEntry, LeadsOver, LogsOutFirst, LosesEntry, Prepares, PutsEntry, TakesRequest, WritesAnswer}
+use Rattle.block_server.specs.Doings.{DoesOne, Doing, DropsAll, KeepsEntry, LogsOutFirst, LosesEntry, Prepares, PutsEntry, TakesRequest, WritesAnswer}
 use Rattle.vscsi_client.specs.State.{ClientState}
 use Rattle.vcpu_run.specs.OwnOver.{IsOver}
 use Rattle.vcpu_run.specs.OwnTurns.{StillTalks}
@@ -42,25 +42,3 @@ talks_does granted d d' s own coming0 whole0 still (inr (inr (inr (inr (inr (inr
     serves (inr (inr (inr (inr (inr (inl step)))))) = inl (keeps_entry granted d d' s own coming0 whole0 step still)
     serves (inr (inr (inr (inr (inr (inr (inl step))))))) = inl (puts_on granted d d' s own coming0 whole0 step still)
     serves (inr (inr (inr (inr (inr (inr (inr step))))))) = absurd (never_loses granted d d' s own coming0 whole0 still step)
-
--- ---- a turn
-
--- What is over stays so in each step of the unit.
-abbrev pub StaysOver : (granted : ℕ) → ClientState → EndState → Type 0
-StaysOver granted s own = (d d' : Doing) → IsOver granted false d s own → DoesOne d d' → IsOver granted false d' s own
-
-over_leads : (granted : ℕ) (s : ClientState) (own : EndState) → StaysOver granted s own → (over : List Doing) (d d' : Doing) → IsOver granted false d s own → LeadsOver over d d'
-    → IsOver granted false d' s own
-over_leads granted s own stays [] d d' is leads = subst (λ (at : Doing). IsOver granted false at s own) (sym leads) is
-over_leads granted s own stays (next ∷ over) d d' is leads = over_leads granted s own stays over next d' (stays d next is leads.0) leads.1
-
-talks_leads : (granted : ℕ) (s : ClientState) (own : EndState) (coming0 whole0 : List Ask) → StaysOver granted s own → (over : List Doing) (d d' : Doing)
-    → TalksOrOver granted d s own coming0 whole0 → LeadsOver over d d' → TalksOrOver granted d' s own coming0 whole0
-talks_leads granted s own coming0 whole0 stays over d d' (inr is) leads = inr (over_leads granted s own stays over d d' is leads)
-talks_leads granted s own coming0 whole0 stays [] d d' (inl still) leads = inl (subst (λ (at : Doing). StillTalks granted at s own coming0 whole0) (sym leads) still)
-talks_leads granted s own coming0 whole0 stays (next ∷ over) d d' (inl still) leads =
-    talks_leads granted s own coming0 whole0 stays over next d' (talks_does granted d next s own coming0 whole0 still leads.0) leads.1
-
-pub talks_turn : (granted : ℕ) (d d' : Doing) (s : ClientState) (own : EndState) (coming0 whole0 : List Ask) → StaysOver granted s own → StillTalks granted d s own coming0 whole0
-    → Does d d' → TalksOrOver granted d' s own coming0 whole0
-talks_turn granted d d' s own coming0 whole0 stays still does = talks_leads granted s own coming0 whole0 stays does.over d d' (inl still) does.leads

@@ -1,10 +1,10 @@
 -- A turn of a server unit in which its session ends for a refusal while its client talks to it: then it is over, and the client knows nothing of
 -- that yet.
-use Rattle.std.proofs.Common.{◌≡◌, ◌≢◌, ◌∙◌, ◌⊎◌, inl, inr, ℕ, ◌+◌, ◌==◌, ◌≤◌, ◌++◌, cond, All, Bool, true, false, true≢false, List, [], ◌∷◌, Option, Some, None, length, refl, sym, ap, ap₂, subst, arith}
+use Rattle.std.proofs.Common.{◌≡◌, ◌≢◌, ◌∙◌, ◌⊎◌, inl, inr, ℕ, ◌≤◌, ◌++◌, cond, All, true, false, true≢false, List, [], ◌∷◌, Option, length, refl, sym, ap, subst, arith}
 use Rattle.std.specs.Prelude.{⊤}
 use Rattle.std.proofs.lemmas.Bool.Decides.{nat_tests}
 use Rattle.std.proofs.lemmas.List.Elements.{All-cons, All-head, All-nil, All-tail}
-use Rattle.vio_num.specs.Entry.{is_srp_entry, srp_entry}
+use Rattle.vio_num.specs.Entry.{is_srp_entry}
 use Rattle.vio_num.specs.declared.entry.Entry.{Entry}
 use Rattle.crq_ring.specs.Sessions.{of_session}
 use Rattle.crq_ring.specs.declared.rows.PipeRow.{PipeRow}
@@ -22,7 +22,7 @@ use Rattle.vscsi_client.specs.declared.stage.Stage.{Stage}
 use Rattle.vscsi_client.specs.declared.stage.Stage.TheVariants.{Idle, Sent, Written}
 use Rattle.vcpu_run.specs.OwnOver.{IsNews, IsOver, IsOwed, IsUnanswered, LoginLast, LoginShows, NoneBehindGone, answers_among, coming_to, held_in, is_under_way, news_among, stream_of, under_way}
 use Rattle.vcpu_run.specs.OwnTurns.{StillTalks, TalksWithin}
-use Rattle.vcpu_run.specs.PlainTalk.{AreInOrder, Ask, HaveAnswers, IsAnswerBy, IsAsk, KeepsSlots, is_sent, login_name}
+use Rattle.vcpu_run.specs.PlainTalk.{AreInOrder, Ask, HaveAnswers, IsAsk, KeepsSlots, is_sent, login_name}
 use Rattle.vcpu_run.proofs.OwnNever.{never_lost}
 use Rattle.vcpu_run.proofs.OwnSame.{told_on}
 use Rattle.vcpu_run.proofs.OwnWindows.{known_own, known_slots}

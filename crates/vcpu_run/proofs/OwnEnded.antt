@@ -1,5 +1,5 @@
 -- A line that waited is ended: it is none of an own client's, so its pair stands as before.
-use Rattle.std.proofs.Common.{◌≡◌, ◌≢◌, ◌∙◌, ◌⊎◌, inl, inr, ℕ, ◌<◌, ◌≤◌, ◌==◌, ◌++◌, Bool, true, false, true≢false, List, [], ◌∷◌, Option, Some, None, IfSome, IsSomeAnd, length, refl, slice_get, slice_set, sym, ap, subst, arith, eqb-true}
+use Rattle.std.proofs.Common.{◌≡◌, ◌∙◌, ◌⊎◌, inl, inr, ℕ, ◌≤◌, ◌==◌, ◌++◌, Bool, true, false, true≢false, List, [], ◌∷◌, Option, Some, None, IfSome, IsSomeAnd, length, refl, slice_get, slice_set, sym, ap, subst, arith, eqb-true}
 use Rattle.boot_text.specs.declared.plan.Line.{Line}
 use Rattle.boot_text.specs.declared.verb.Verb.{Verb}
 use Rattle.boot_text.specs.declared.verb.Verb.TheVariants as verbs
@@ -14,8 +14,7 @@ use Rattle.vcpu_run.specs.OwnPairs.{ComesOver, IsNewOwnPair, IsOverOwn, IsOwnPai
 use Rattle.vcpu_run.specs.OwnRuns.{AreOwn, AtOwnSeats, IsOwnSeat, OwnInRound}
 use Rattle.vcpu_run.specs.OwnServes.{EndsOwn}
 use Rattle.vcpu_run.specs.PlainPairs.{ServerBooks}
-use Rattle.vcpu_run.specs.PlainScripts.{NoneAwaits, OfUnit, StandsAt, awaits, told_in}
-use Rattle.vcpu_run.specs.Replay.{Replay}
+use Rattle.vcpu_run.specs.PlainScripts.{NoneAwaits, OfUnit, awaits, told_in}
 use Rattle.vcpu_run.specs.Scripts.{OnlyRuns, are_servers}
 use Rattle.vcpu_run.specs.Works.{fails}
 use Rattle.vcpu_run.specs.declared.driver.Driver.{Driver}

@@ -1,5 +1,5 @@
 -- A turn of a server unit ends, while its client talks to it: all that was to come was heard, and what was the oldest then might be answered.
-use Rattle.std.proofs.Common.{◌≡◌, ◌≢◌, ◌∙◌, ◌⊎◌, inl, inr, ℕ, ◌+◌, ◌<◌, ◌≤◌, ◌++◌, ◌&&◌, ◌||◌, All, Bool, true, false, true≢false, List, [], ◌∷◌, Option, Some, None, drop, length, length-append, length-drop, map, refl, sym, ap, subst, arith}
+use Rattle.std.proofs.Common.{◌≡◌, ◌≢◌, ◌∙◌, inl, inr, ℕ, ◌+◌, ◌≤◌, ◌++◌, ◌&&◌, ◌||◌, All, Bool, true, false, true≢false, List, [], ◌∷◌, None, length, length-append, length-drop, map, refl, sym, ap, subst, arith}
 use Rattle.std.proofs.lemmas.List.Elements.{All-head}
 use Rattle.vio_num.specs.declared.entry.Entry.{Entry}
 use Rattle.vio_num.specs.declared.history.Grant.{Grant}
@@ -8,7 +8,7 @@ use Rattle.vio_num.specs.declared.names.UnitId.{UnitId}
 use Rattle.crq_ring.specs.Sessions.{of_session}
 use Rattle.crq_ring.specs.declared.rows.PipeRow.{PipeRow}
 use Rattle.crq_session.specs.Answered.{partner_took, sent_now, taken_now}
-use Rattle.crq_session.specs.EndState.{EndPlace, EndState}
+use Rattle.crq_session.specs.EndState.{EndState}
 use Rattle.tce_window.specs.PortState.{PortState}
 use Rattle.block_server.specs.Doings.{Doing, doing_at}
 use Rattle.block_server.specs.HeardOut.{HasNoRoom, HearsOut, ServesOut, to_serve}
@@ -16,7 +16,6 @@ use Rattle.block_server.specs.HeardOut.HearsOut.{full, heard_all, keeps, over, s
 use Rattle.block_server.specs.Receipts.{is_down}
 use Rattle.block_server.specs.Talk.{MayWriteAnswer, to_come}
 use Rattle.block_server.specs.declared.request.Request.{Request}
-use Rattle.block_server.specs.declared.service.Outcome.{Outcome}
 use Rattle.block_server.specs.declared.service.Stage.{Stage}
 use Rattle.block_server.specs.declared.service.Stage.TheVariants as stages
 use Rattle.block_server.specs.declared.unit.Unit.{Unit}
@@ -24,8 +23,8 @@ use Rattle.vscsi_client.specs.State.{ClientState}
 use Rattle.vscsi_client.specs.Units.{slot_address}
 use Rattle.vscsi_client.specs.declared.outgoing.Outgoing.{Outgoing}
 use Rattle.vcpu_run.specs.OwnOver.{coming_to}
-use Rattle.vcpu_run.specs.OwnTurns.{AwaitsAll, HasDone, IsServedAt, IsTalker, MayAnswer, StandsOver, StillTalks, TalksWithin}
-use Rattle.vcpu_run.specs.PlainTalk.{ArePending, AreSaidThere, Ask, is_logout, word_of}
+use Rattle.vcpu_run.specs.OwnTurns.{AwaitsAll, IsServedAt, IsTalker, MayAnswer, StillTalks, TalksWithin}
+use Rattle.vcpu_run.specs.PlainTalk.{AreSaidThere, Ask, word_of}
 use Rattle.vcpu_run.proofs.PlainReady.{answers_long, asks_few, awaited_few, pending_long}
 
 -- ---- how many there are

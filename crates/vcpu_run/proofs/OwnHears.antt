@@ -1,20 +1,18 @@
 -- The rights of a client's window do not change in a turn of its server unit; and where the unit could read what was asked, that is said.
-use Rattle.std.proofs.Common.{◌≡◌, ◌∙◌, ◌⊎◌, inl, inr, ℕ, ◌+◌, ◌++◌, All, List, [], ◌∷◌, Option, Some, None, append-nil, append_assoc, length, map, refl, sym, ap, subst}
+use Rattle.std.proofs.Common.{◌≡◌, ◌∙◌, ◌⊎◌, inl, inr, ℕ, ◌+◌, ◌++◌, All, List, [], ◌∷◌, Some, append-nil, append_assoc, length, map, sym, ap, subst}
 use Rattle.std.proofs.lemmas.List.Elements.{All-head, All-tail}
 use Rattle.vio_num.specs.declared.entry.Entry.{Entry}
-use Rattle.vio_num.specs.declared.history.Served.{Served}
-use Rattle.page_slots.specs.declared.stroke.StrokeName.{StrokeName}
 use Rattle.tce_window.specs.PortState.{PortState}
 use Rattle.block_server.specs.Bearing.{BearsRow}
 use Rattle.block_server.specs.Doings.{Does, DoesOne, Doing, DropsAll, KeepsEntry, LeadsOver, LogsOutFirst, LosesEntry, Prepares, PutsEntry, TakesRequest, WritesAnswer, name_for}
 use Rattle.block_server.specs.Judged.{row_in}
 use Rattle.block_server.specs.Ranges.{Known, known_in}
 use Rattle.block_server.specs.Standing.{stood}
-use Rattle.block_server.specs.Talk.{HearsAll, SayWords, StaysKnown, Talk, order_asked, tag_asked}
+use Rattle.block_server.specs.Talk.{HearsAll, SayWords, Talk}
 use Rattle.block_server.specs.declared.request.Request.{Request}
 use Rattle.vscsi_client.specs.Units.{slot_address}
 use Rattle.vcpu_run.specs.OwnTurns.{MayRead}
-use Rattle.vcpu_run.specs.PlainTalk.{AreSaidThere, ArePending, Ask, IsAsk, IsOwnWindow, ShowsAt, word_of}
+use Rattle.vcpu_run.specs.PlainTalk.{AreSaidThere, ArePending, Ask, IsAsk, IsOwnWindow, word_of}
 use Rattle.vcpu_run.proofs.OwnSame.{rights_stay}
 use Rattle.vcpu_run.proofs.OwnWindows.{StaysGranted}
 use Rattle.vcpu_run.proofs.PlainLists.{pending_push}

@@ -1,12 +1,11 @@
 -- The steps within a turn of a server unit that change nothing of what lies between it and its client.
-use Rattle.std.proofs.Common.{◌≡◌, ◌∙◌, ◌++◌, ℕ, List, None, append-nil, sym, ap}
-use Rattle.crq_ring.specs.declared.rows.PipeRow.{PipeRow}
+use Rattle.std.proofs.Common.{◌∙◌, ◌++◌, ℕ, List, append-nil, ap}
 use Rattle.crq_session.specs.EndState.{EndState}
 use Rattle.block_server.specs.Doings.{CallsOnly, Doing, SettlesEvent, event_put, rows_to}
 use Rattle.vscsi_client.specs.State.{ClientState}
 use Rattle.vcpu_run.specs.OwnTurns.{StillTalks}
 use Rattle.vcpu_run.specs.PlainTalk.{Ask}
-use Rattle.vcpu_run.proofs.OwnSame.{StaysWithin, still_same}
+use Rattle.vcpu_run.proofs.OwnSame.{still_same}
 
 unfoldable pub calls_only : (granted : ℕ) (old new : Doing) (s : ClientState) (own : EndState) (coming0 whole0 : List Ask) → CallsOnly old new → StillTalks granted old s own coming0 whole0
     → StillTalks granted new s own coming0 whole0

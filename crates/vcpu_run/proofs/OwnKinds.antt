@@ -1,5 +1,5 @@
 -- A client's tags keep what they were used for, whatever its lines do; and what it asked for, noted, or has under way is of these kinds.
-use Rattle.std.proofs.Common.{◌≡◌, ◌∙◌, ◌⊎◌, inl, inr, ℕ, zero, suc, ◌≤◌, ◌<◌, ◌-◌, ◌==◌, ◌++◌, nat_le, All, Bool, true, false, true≢false, cond, IsSomeAnd, List, [], ◌∷◌, Ok, Err, None, Some, Option, Result, arith, find, length, length-append, refl, sym, ap, subst, eq-eqb, eqb-true}
+use Rattle.std.proofs.Common.{◌≡◌, ◌∙◌, ◌⊎◌, inl, inr, ℕ, zero, suc, ◌≤◌, ◌<◌, ◌-◌, ◌==◌, ◌++◌, nat_le, All, Bool, true, false, true≢false, cond, IsSomeAnd, List, [], ◌∷◌, Ok, Err, None, Some, Result, arith, find, length, length-append, refl, sym, ap, subst, eq-eqb, eqb-true}
 use Rattle.std.specs.Prelude.{◌+◌}
 use Rattle.std.specs.List.{slice_index_or}
 use Rattle.std.specs.Option.{option_map}
@@ -38,7 +38,7 @@ use Rattle.vscsi_client.specs.declared.stage.Due.TheVariants as dues
 use Rattle.vscsi_client.specs.declared.stage.Stage.{Stage}
 use Rattle.vscsi_client.specs.declared.stage.Stage.TheVariants.{Idle, Sent, Written}
 use Rattle.unit_region.specs.declared.step.Step.{Step}
-use Rattle.vcpu_run.specs.Acts.{Acting, ActsFor, LogsInOnce, LogsOutAs, NotesTaken, RefusesOp, ResetsFirst, ResetsOnce, SubmitsAs, TakesEach, TakesOnce, TakesRest, TasksAs}
+use Rattle.vcpu_run.specs.Acts.{Acting, ActsFor, LogsInOnce, LogsOutAs, NotesTaken, RefusesOp, ResetsFirst, ResetsOnce, SubmitsAs, TakesEach, TakesRest, TasksAs}
 use Rattle.vcpu_run.specs.ActsAt.{FailsOnce}
 use Rattle.vcpu_run.specs.OwnKinds.{IsAskedTag, IsLoginTag, IsOfKind, IsOfLogin, KeepsKinds, is_no_login}
 use Rattle.vcpu_run.specs.TagRows.{row_at}

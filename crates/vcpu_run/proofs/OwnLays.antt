@@ -1,6 +1,6 @@
 -- What stays of a client's window where a server unit lays strokes in some ranges: the slots and the tables that are apart from those; and what shows
 -- where it wrote.
-use Rattle.std.proofs.Common.{◌≡◌, ◌∙◌, ℕ, ◌+◌, ◌*◌, ◌/◌, ◌%◌, ◌<◌, ◌≤◌, List, Option, Some, None, length, sym, ap, subst, arith}
+use Rattle.std.proofs.Common.{◌≡◌, ◌∙◌, ℕ, ◌/◌, ◌%◌, ◌≤◌, List, Option, Some, None, length, sym, ap, subst, arith}
 use Rattle.std.proofs.lemmas.List.Elements.{All-weaker}
 use Rattle.page_slots.specs.Stroke.{StrokeValue}
 use Rattle.page_slots.specs.declared.stroke.StrokeName.{StrokeName}

@@ -1,6 +1,5 @@
 -- A client that knows of a login awaits no logout, whatever its lines do.
-use Rattle.std.proofs.Common.{◌≡◌, ◌⊎◌, inl, inr, ℕ, Bool, true, false, cond, IfSome, List, [], ◌∷◌, Ok, Err, None, Option, Result, Some, refl, sym, subst}
-use Rattle.std.specs.Borrow.{GName}
+use Rattle.std.proofs.Common.{inl, inr, ℕ, Bool, true, false, cond, List, [], ◌∷◌, Ok, Err, Result, refl, sym, subst}
 use Rattle.boot_text.specs.declared.verb.Verb.{Verb}
 use Rattle.boot_text.specs.declared.verb.Verb.TheVariants as verbs
 use Rattle.crq_session.specs.EndState.{EndState}
@@ -23,11 +22,8 @@ use Rattle.vscsi_client.specs.declared.op.Op.{Op}
 use Rattle.vscsi_client.specs.declared.stage.Due.{Due}
 use Rattle.unit_region.specs.declared.step.Step.{Step}
 use Rattle.vcpu_run.specs.Acts.{Acting, ActsFor, LogsInOnce, LogsOutAs, RefusesOp, ResetsFirst, ResetsOnce, SubmitsAs, TakesEach, TakesRest, TasksAs}
-use Rattle.vcpu_run.specs.ActsAt.{AtPair, FailsOnce, Leads, LeadsOver, PushesEvent, acting_at}
-use Rattle.vcpu_run.specs.Agreed.{OnDrivers}
+use Rattle.vcpu_run.specs.ActsAt.{FailsOnce}
 use Rattle.vcpu_run.specs.OwnCounts.{IsLogoutDone}
-use Rattle.vcpu_run.specs.declared.driver.Driver.{Driver}
-use Rattle.vcpu_run.specs.declared.pair.Pair.{Pair}
 use Rattle.vcpu_run.specs.declared.script.Progress.{Progress}
 use Rattle.vcpu_run.specs.declared.taking.Took as takings
 
@@ -147,9 +143,6 @@ logout_acts line verb p p' old new step acts is = commands_done line acts.op old
 
 -- ---- what is done besides lines
 
-pub logout_pushed : (old new : Acting) → PushesEvent old new → IsLogoutDone old.client → IsLogoutDone new.client
-logout_pushed old new pushes is = subst IsLogoutDone (sym pushes.client.client) is
-
 pub logout_fails : (old new : Acting) → FailsOnce old new → IsLogoutDone old.client → IsLogoutDone new.client
 logout_fails old new (inl fails) is = subst IsLogoutDone (sym fails.client) is
 logout_fails old new (inr (inl free)) is = subst IsLogoutDone (sym free.client.client) is
@@ -157,28 +150,3 @@ logout_fails old new (inr (inr used)) is = subst IsLogoutDone (sym used.client.c
 
 pub logout_rests : (old new : Acting) → TakesRest old new → IsLogoutDone old.client → IsLogoutDone new.client
 logout_rests old new rests is = takes_done rests.entries old new rests.each is
-
--- ---- at a pair
-
--- the client of a pair, if it has one
-abbrev pub LogoutDoneAt : Pair → Type 0
-LogoutDoneAt pair = IfSome pair.driver (λ driver. IsLogoutDone driver.client)
-
-pub at_done : (P : Acting → Acting → Type 0) → ((old new : Acting) → P old new → IsLogoutDone old.client → IsLogoutDone new.client) → (old new : Pair) → AtPair P old new
-    → LogoutDoneAt old → LogoutDoneAt new
-at_done P keeps old new did is = by old.driver new.driver did is
-  where
-    by : (o o' : Option Driver) → OnDrivers o o' (λ a b. (lenders : List GName) × P (acting_at lenders a old) (acting_at lenders b new)) → IfSome o (λ driver. IsLogoutDone driver.client)
-        → IfSome o' (λ driver. IsLogoutDone driver.client)
-    by (Some a) (Some b) (lenders, one) done = keeps (acting_at lenders a old) (acting_at lenders b new) one done
-    by None None one done = tt
-    by (Some a) None one done = absurd one
-    by None (Some b) one done = absurd one
-
-pub leads_done : (P : Acting → Acting → Type 0) → ((old new : Acting) → P old new → IsLogoutDone old.client → IsLogoutDone new.client) → (old new : Pair) → Leads P old new
-    → LogoutDoneAt old → LogoutDoneAt new
-leads_done P keeps old new leads is = go leads.over old leads.leads is
-  where
-    go : (over : List Pair) (at : Pair) → LeadsOver P over at new → LogoutDoneAt at → LogoutDoneAt new
-    go [] at same done = subst LogoutDoneAt (sym same) done
-    go (next ∷ over) at did done = go over next did.1 (at_done P keeps at next did.0 done)

@@ -1,5 +1,5 @@
 -- The steps that no turn of a server unit makes while its client talks to it: what is to come are requests alone, and nothing but an answer is kept.
-use Rattle.std.proofs.Common.{◌≡◌, ◌∙◌, ◌⊎◌, inl, inr, ℕ, ◌+◌, ◌%◌, ◌≤◌, ◌++◌, All, true, false, List, [], ◌∷◌, Some, None, length, map, refl, sym, ap, subst, arith, true≢false}
+use Rattle.std.proofs.Common.{◌≡◌, ◌∙◌, ◌⊎◌, inl, inr, ℕ, ◌++◌, All, true, List, [], ◌∷◌, Some, None, length, map, refl, sym, ap, subst, arith, true≢false}
 use Rattle.std.proofs.lemmas.Bool.Decides.{nat_tests}
 use Rattle.std.proofs.lemmas.List.Elements.{All-head}
 use Rattle.vio_num.specs.Entry.{first_byte, is_srp_entry, iu_address, iu_length, kind_of}
@@ -12,13 +12,12 @@ use Rattle.tce_window.specs.PortState.{PortState}
 use Rattle.block_server.specs.Doings.{AsksNothing, Doing, FreesLine, HearsDatagram, HearsInit, IsLostBy, LosesEntry, OpensLine, PassesEntry, SendsKept}
 use Rattle.block_server.specs.Talk.{IsReadWhole}
 use Rattle.block_server.specs.declared.line.Kept.TheVariants as keeps
-use Rattle.block_server.specs.declared.service.Outcome.{Outcome}
 use Rattle.block_server.specs.declared.service.Stage.{Stage}
 use Rattle.block_server.specs.declared.service.Stage.TheVariants as stages
 use Rattle.vscsi_client.specs.State.{ClientState}
 use Rattle.vscsi_client.specs.Units.{slot_address}
-use Rattle.vcpu_run.specs.OwnTurns.{GoesOn, IsServedAt, KeepsAnswer, StillTalks}
-use Rattle.vcpu_run.specs.PlainTalk.{AreSaidThere, Ask, IsAsk, IsAskedThere, IsOwnWindow, shown, word_of}
+use Rattle.vcpu_run.specs.OwnTurns.{IsServedAt, KeepsAnswer, StillTalks}
+use Rattle.vcpu_run.specs.PlainTalk.{AreSaidThere, Ask, IsAsk, IsAskedThere, IsOwnWindow, word_of}
 use Rattle.vcpu_run.proofs.AskedBytes.{asked_bytes}
 use Rattle.vcpu_run.proofs.PlainReady.{all_rest}
 use Rattle.vcpu_run.proofs.PlainSlots.{slot_on}

@@ -1,18 +1,16 @@
 -- A logout that a server unit serves within a turn, while its client talks to it: nothing of it is left.
-use Rattle.std.proofs.Common.{◌≡◌, ◌∙◌, inl, ℕ, ◌++◌, All, true, List, [], ◌∷◌, Some, append-nil, append_assoc, length, map, refl, sym, ap, subst}
+use Rattle.std.proofs.Common.{◌≡◌, ◌∙◌, inl, ℕ, ◌++◌, All, true, List, [], ◌∷◌, Some, append-nil, append_assoc, length, map, sym, subst}
 use Rattle.std.specs.Prelude.{⊤}
 use Rattle.std.proofs.lemmas.List.Elements.{All-push, All-tail}
 use Rattle.vio_num.specs.declared.entry.Entry.{Entry}
 use Rattle.crq_session.specs.EndState.{EndState}
 use Rattle.srp_iu.specs.declared.unit.Iu.{Iu}
-use Rattle.tce_window.specs.PortState.{PortState}
 use Rattle.block_server.specs.Doings.{Doing, LogsOutFirst}
 use Rattle.block_server.specs.declared.request.Request.{Request}
 use Rattle.block_server.specs.declared.service.Stage.{Stage}
-use Rattle.block_server.specs.declared.service.Stage.TheVariants as stages
 use Rattle.vscsi_client.specs.State.{ClientState}
 use Rattle.vcpu_run.specs.OwnTurns.{AwaitsAll, HasDone, IsServedAt, MayAnswer, StillTalks, TalksWithin, unserved}
-use Rattle.vcpu_run.specs.PlainTalk.{AreInOrder, ArePending, AreSaidThere, Ask, DataLies, IsAsk, IsOwnWindow, IsPendingAs, KeepsSlots, StartsAt, is_logout, word_of}
+use Rattle.vcpu_run.specs.PlainTalk.{AreInOrder, ArePending, AreSaidThere, Ask, DataLies, IsAsk, IsOwnWindow, KeepsSlots, StartsAt, is_logout, word_of}
 use Rattle.vcpu_run.proofs.OwnSame.{goes_on, rights_stay, told_on}
 use Rattle.vcpu_run.proofs.OwnWindows.{answers_stay, known_own, known_slots, known_tables, reads_stay, said_stays}
 use Rattle.vcpu_run.proofs.PlainLists.{all_without, apart_without, first_logout, login_without, logout_no_login, names_without, order_logout, order_tail, rise_without}

@@ -1,19 +1,17 @@
 -- The oldest request is served within a turn of a server unit, up to its answer, while its client talks to it: its data lie on the pages of its data.
-use Rattle.std.proofs.Common.{◌≡◌, ◌∙◌, inl, inr, ℕ, ◌++◌, All, false, List, [], ◌∷◌, Some, append-nil, length, map, refl, sym, ap, subst}
+use Rattle.std.proofs.Common.{◌≡◌, ◌∙◌, ℕ, ◌++◌, All, false, List, [], ◌∷◌, append-nil, map, refl, sym, subst}
 use Rattle.std.specs.Prelude.{⊤}
 use Rattle.std.proofs.lemmas.List.Elements.{All-head, All-tail}
 use Rattle.vio_num.specs.declared.entry.Entry.{Entry}
 use Rattle.crq_session.specs.EndState.{EndState}
 use Rattle.srp_iu.specs.declared.unit.Iu.{Iu}
 use Rattle.block_server.specs.Doings.{Doing, Prepares, name_for}
-use Rattle.block_server.specs.Granting.{LoginState}
 use Rattle.block_server.specs.Judged.{row_in}
 use Rattle.block_server.specs.Standing.{IsAnswerTo}
 use Rattle.block_server.specs.Talk.{Suits, order_asked}
 use Rattle.block_server.specs.declared.request.Order.{Order}
 use Rattle.block_server.specs.declared.request.Request.{Request}
 use Rattle.block_server.specs.declared.service.Stage.{Stage}
-use Rattle.block_server.specs.declared.service.Stage.TheVariants as stages
 use Rattle.vscsi_client.specs.Spans.{meets}
 use Rattle.vscsi_client.specs.State.{ClientState}
 use Rattle.vcpu_run.specs.OwnTurns.{HasDone, IsServedAt, StillTalks, TalksWithin, unserved}

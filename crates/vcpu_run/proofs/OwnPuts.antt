@@ -1,6 +1,6 @@
 -- The entry of an answer that a server unit puts, or keeps, within a turn, while its client talks to it: the client is to look at the answer behind
 -- all that it is to look at.
-use Rattle.std.proofs.Common.{◌≡◌, ◌∙◌, ◌⊎◌, inl, inr, ℕ, ◌≤◌, ◌++◌, cond, All, Bool, true, List, [], ◌∷◌, Some, None, append_assoc, drop, length, map, refl, sym, ap, subst}
+use Rattle.std.proofs.Common.{◌≡◌, ◌∙◌, inr, ℕ, ◌≤◌, ◌++◌, cond, All, List, [], ◌∷◌, Some, append_assoc, drop, length, map, refl, sym, ap, subst}
 use Rattle.std.specs.Prelude.{⊤}
 use Rattle.std.proofs.lemmas.List.{drop-append-le}
 use Rattle.std.proofs.lemmas.List.Elements.{All-head, All-push, All-tail}
@@ -11,7 +11,6 @@ use Rattle.crq_ring.specs.declared.rows.PipeRow.{PipeRow}
 use Rattle.crq_session.specs.Answered.{taken_now}
 use Rattle.crq_session.specs.EndState.{EndState}
 use Rattle.srp_iu.specs.declared.unit.Iu.{Iu}
-use Rattle.tce_window.specs.PortState.{PortState}
 use Rattle.block_server.specs.Doings.{Doing, KeepsEntry, PutsEntry, entry_for, rows_to}
 use Rattle.block_server.specs.Talk.{MayWriteAnswer, Suits, order_asked}
 use Rattle.block_server.specs.declared.line.Kept.TheVariants as keeps
@@ -26,7 +25,7 @@ use Rattle.vcpu_run.specs.OwnTurns.{AwaitsAll, HasDone, IsServedAt, MayAnswer, S
 use Rattle.vcpu_run.specs.PlainTalk.{AnswerStands, ArePending, AreSaidThere, Ask, DataLies, HaveAnswers, IsAnswerBy, IsAsk, IsOwnWindow, IsPendingAs, KeepsSlots, StartsAt, word_of}
 use Rattle.vcpu_run.proofs.Losing.{of_append}
 use Rattle.vcpu_run.proofs.OwnOuts.{gone_push}
-use Rattle.vcpu_run.proofs.OwnSame.{StaysWithin, answer_stands, goes_on, rights_stay, stands_over, still_served, told_on}
+use Rattle.vcpu_run.proofs.OwnSame.{StaysWithin, answer_stands, goes_on, rights_stay, stands_over, still_served}
 use Rattle.vcpu_run.proofs.OwnWindows.{answers_stay, known_own, known_slots, known_tables, reads_stay, said_stays}
 use Rattle.vcpu_run.proofs.PlainLists.{answers_push}
 use Rattle.vcpu_run.proofs.PlainReady.{all_front, all_rest}

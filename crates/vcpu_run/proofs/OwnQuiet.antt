@@ -1,13 +1,12 @@
 -- A turn of a client's server unit is ready where it has the rights that it needs; and it needs none before both have heard of one another.
-use Rattle.std.proofs.Common.{◌≡◌, ◌≢◌, ◌∙◌, ◌⊎◌, inl, inr, ℕ, ◌+◌, ◌≤◌, ◌++◌, All, false, List, [], ◌∷◌, length, length-append, refl, sym, ap, subst, arith}
+use Rattle.std.proofs.Common.{◌≡◌, ◌∙◌, inl, inr, ℕ, ◌+◌, ◌≤◌, ◌++◌, false, List, [], ◌∷◌, length, length-append, refl, sym, ap, subst, arith}
 use Rattle.vio_num.specs.declared.entry.Entry.{Entry}
 use Rattle.crq_session.specs.Answered.{taken_now}
-use Rattle.srp_iu.specs.declared.unit.Iu.{Iu}
 use Rattle.tce_window.specs.PortState.{PortState}
 use Rattle.block_server.specs.Talk.{HearsAll, IsTurnReady, SayWords, Talk, Word, reach, replies, talk_of, to_come}
 use Rattle.block_server.specs.Talk.Word.{begins, gone}
 use Rattle.block_server.specs.declared.request.Request.{Request}
-use Rattle.vcpu_run.specs.PlainTalk.{AreSaidThere, AskedParts, Between, HearsOfClient, HearsOfGone, InPhase, IsAway, IsBeginning, IsCalm, IsTalking}
+use Rattle.vcpu_run.specs.PlainTalk.{AreSaidThere, Between, HearsOfClient, HearsOfGone, InPhase, IsAway, IsBeginning, IsCalm}
 use Rattle.vcpu_run.proofs.OwnReady.{HasItsRights}
 use Rattle.vcpu_run.proofs.PlainReady.{all_few, in_order, own_few, pending_long, replies_few, room_for, words_few}
 

@@ -1,6 +1,6 @@
 -- A turn of a client's login, whose server unit's session is over, or was, and which waits: it does something, where the unit has nothing to do, or the
 -- client's queue is full.
-use Rattle.std.proofs.Common.{◌≡◌, ◌≢◌, ◌∙◌, ◌⊎◌, inl, inr, ℕ, ◌+◌, ◌≤◌, ◌++◌, true, false, true≢false, List, [], ◌∷◌, Option, Ok, arith, length, refl, sym, ap, subst}
+use Rattle.std.proofs.Common.{◌≡◌, ◌∙◌, ◌⊎◌, inl, inr, ℕ, ◌+◌, ◌≤◌, ◌++◌, true, false, true≢false, List, [], ◌∷◌, Option, Ok, arith, length, refl, sym, ap, subst}
 use Rattle.std.specs.List.{list_any}
 use Rattle.vio_num.specs.declared.entry.Entry.{Entry}
 use Rattle.vio_num.specs.declared.hypervisor.Moved.{Moved}

@@ -1,6 +1,6 @@
 -- A line of a client that takes answers, whose server unit's session is over, or was, and which waits: it did something, where the unit has nothing to
 -- do, or the client's queue is full.
-use Rattle.std.proofs.Common.{◌≡◌, ◌≢◌, ◌∙◌, ◌⊎◌, inl, inr, ℕ, ◌+◌, ◌≤◌, ◌++◌, Bool, true, false, IsSomeAnd, List, [], ◌∷◌, Option, None, Some, append-nil, sym, ap, subst}
+use Rattle.std.proofs.Common.{◌≡◌, ◌≢◌, ◌∙◌, ◌⊎◌, inl, inr, ℕ, ◌≤◌, ◌++◌, Bool, true, false, IsSomeAnd, List, [], ◌∷◌, Option, None, Some, append-nil, sym, ap, subst}
 use Rattle.vio_num.specs.declared.entry.Entry.{Entry}
 use Rattle.vio_num.specs.declared.hypervisor.Moved.TheVariants as moves
 use Rattle.crq_session.specs.Answered.{FindsNone}

@@ -1,5 +1,5 @@
 -- An own client that talks with its server unit, at its pair: none of its lines waits in a turn in which nothing was done, where the server unit waits.
-use Rattle.std.proofs.Common.{◌≡◌, ◌≢◌, inl, inr, ℕ, ◌==◌, true, false, true≢false, List, [], Some, Ok, arith, length, length-drop, refl, sym}
+use Rattle.std.proofs.Common.{◌≡◌, inl, inr, ℕ, ◌==◌, true, false, true≢false, List, [], Some, Ok, arith, length, length-drop, refl, sym}
 use Rattle.boot_text.specs.declared.plan.Line.{Line}
 use Rattle.boot_text.specs.declared.verb.Verb.{Verb}
 use Rattle.boot_text.specs.declared.verb.Verb.TheVariants as verbs

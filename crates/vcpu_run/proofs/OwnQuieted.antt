@@ -1,5 +1,5 @@
 -- Own clients in a round in which nothing was done: none of their lines waits.
-use Rattle.std.proofs.Common.{◌≡◌, ◌≢◌, ◌∙◌, ◌⊎◌, inl, inr, ℕ, zero, suc, ◌==◌, Bool, true, false, true≢false, IfSome, List, [], ◌∷◌, Option, Some, None, Ok, eq-eqb, refl, slice_get, sym, ap, subst}
+use Rattle.std.proofs.Common.{◌≡◌, ◌∙◌, ◌⊎◌, inl, inr, ℕ, zero, suc, ◌==◌, Bool, true, false, true≢false, IfSome, List, [], ◌∷◌, Option, Some, None, Ok, eq-eqb, refl, slice_get, sym, ap, subst}
 use Rattle.std.specs.Borrow.{GName}
 use Rattle.boot_text.specs.declared.plan.Line.{Line}
 use Rattle.boot_text.specs.declared.verb.Verb.{Verb}

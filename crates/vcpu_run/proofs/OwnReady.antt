@@ -1,34 +1,24 @@
--- A turn of a client's server unit, whatever rights the client's window has: either all the rights were there that the turn needs, so that nothing is
--- amiss; or the session of the unit is over.
-use Rattle.std.proofs.Common.{◌≡◌, ◌≢◌, ◌∙◌, ◌⊎◌, inl, inr, ℕ, ◌+◌, ◌≤◌, ◌++◌, All, Bool, true, false, List, [], ◌∷◌, Option, Some, None, append-nil, length, length-append, map, refl, sym, ap, subst, arith}
+-- A turn of a client's server unit, whatever rights the client's window has: where the two talk still behind it, all the rights were there that the
+-- turn needs.
+use Rattle.std.proofs.Common.{◌≡◌, ◌≢◌, ◌∙◌, inl, inr, ℕ, ◌++◌, All, true, false, List, [], ◌∷◌, append-nil, length, length-append, map, refl, sym, ap, subst, arith}
 use Rattle.std.proofs.lemmas.List.Elements.{All-cons, All-head, All-nil}
-use Rattle.vio_num.specs.declared.entry.Entry.{Entry}
 use Rattle.vio_num.specs.declared.history.Grant.{Grant}
 use Rattle.vio_num.specs.declared.history.Served.{Served}
 use Rattle.vio_num.specs.declared.names.UnitId.{UnitId}
 use Rattle.crq_session.specs.Answered.{taken_now}
-use Rattle.crq_session.specs.EndState.{EndState}
 use Rattle.srp_iu.specs.declared.unit.Iu.{Iu}
 use Rattle.srp_iu.specs.declared.unit.Iu.TheVariants as units
-use Rattle.tce_window.specs.PortState.{PortState}
-use Rattle.block_server.specs.Doings.{DoesTurn, Doing}
 use Rattle.block_server.specs.HeardOut.{HearsOut, ServesOut, to_serve}
-use Rattle.block_server.specs.Talk.{HearsAll, IsTurnReady, MayAnswerNext, MayWriteAnswer, SayWords, Talk, Word, order_asked, reach, replies, talk_of, to_come}
-use Rattle.block_server.specs.Talk.Word.{begins, gone}
-use Rattle.block_server.specs.declared.request.Order.{Order}
+use Rattle.block_server.specs.Talk.{HearsAll, MayAnswerNext, MayWriteAnswer, SayWords, Talk, Word, order_asked, reach, talk_of, to_come}
 use Rattle.block_server.specs.declared.request.Order.TheVariants as orders
 use Rattle.block_server.specs.declared.request.Request.{Request}
-use Rattle.vscsi_client.specs.State.{ClientState}
-use Rattle.vscsi_client.specs.Units.{slot_address}
-use Rattle.vcpu_run.specs.OwnOver.{IsOver}
 use Rattle.vcpu_run.specs.OwnTurns.{MayAnswer, MayRead, StillTalks}
-use Rattle.vcpu_run.specs.PlainTalk.{AreEnds, AreSaidThere, ArePending, Ask, AskedParts, Between, HearsOfClient, HearsOfGone, InPhase, IsAsk, IsCalm, IsPendingAs, IsTalking, is_logout, word_of}
-use Rattle.vcpu_run.proofs.OwnStarts.{doing_of, still_begins}
-use Rattle.vcpu_run.proofs.OwnDoes.{StaysOver, TalksOrOver, talks_turn}
+use Rattle.vcpu_run.specs.PlainTalk.{AreSaidThere, ArePending, Ask, AskedParts, Between, IsAsk, IsCalm, IsPendingAs, IsTalking, is_logout, word_of}
+use Rattle.vcpu_run.proofs.OwnStarts.{doing_of}
 use Rattle.vcpu_run.proofs.OwnHeardOut.{SeesClient, first_may, heard_out, said_long}
-use Rattle.vcpu_run.proofs.OwnHears.{granted_back, heard_pending, said_read, turn_granted}
+use Rattle.vcpu_run.proofs.OwnHears.{granted_back, heard_pending, said_read}
 use Rattle.vcpu_run.proofs.OwnWindows.{StaysGranted, answers_stay, reads_stay}
-use Rattle.vcpu_run.proofs.PlainReady.{all_rest, in_order, own_few, pending_long, replies_few, room_for, words_few}
+use Rattle.vcpu_run.proofs.PlainReady.{all_rest, pending_long}
 use Rattle.vcpu_run.proofs.PlainServed.{pending_first}
 
 -- ---- the rights that a turn needs
@@ -91,22 +81,3 @@ rights_told granted at at' words asked answers name rows' lines' calm talk right
         by : (ask : Ask) → IsPendingAs request ask → MayAnswer at.window ask → MayWriteAnswer at.window request.address
         by ask is (inl logout) = absurd (isnt (is.order ∙ logout_order ask.iu logout))
         by ask is (inr yes') = subst (MayWriteAnswer at.window) (sym is.address) yes'
-
--- ---- the turn
-
--- Either they were there, or the session is over.
-pub rights_or_over : (granted : ℕ) (at at' : Between) (words : List Word) (asked : AskedParts) (answers : List Iu) (name : UnitId) (rows rows' : List Served) (lines lines' : List Grant)
-    → IsCalm granted at words → IsTalking granted at words asked answers → at.client.tabled ≡ None → name ≡ at.unit.id → at.window.place.unit ≢ at.unit.id
-    → StaysOver granted at.client at.own → DoesTurn (doing_of at name rows lines) (doing_of at' name rows' lines') → SeesClient at'.server at.own
-    → HearsOut 255 false at'.unit at'.server → ServesOut at.unit at'.unit at.server at'.server
-    → HasItsRights at words ⊎ IsOver granted false (doing_of at' name rows' lines') at.client at.own
-rights_or_over granted at at' words asked answers name rows rows' lines lines' calm talk tabled named apart stays turn sees out serves =
-    by (talks_turn granted (doing_of at name rows lines) (doing_of at' name rows' lines') at.client at.own asked.coming (asked.pending ++ asked.coming) stays
-    (still_begins granted at words asked answers name rows lines calm talk tabled named apart) turn.does)
-  where
-    by : TalksOrOver granted (doing_of at' name rows' lines') at.client at.own asked.coming (asked.pending ++ asked.coming)
-        → HasItsRights at words ⊎ IsOver granted false (doing_of at' name rows' lines') at.client at.own
-    by (inl still) =
-        inl (rights_told granted at at' words asked answers name rows' lines' calm talk (turn_granted (doing_of at name rows lines) (doing_of at' name rows' lines') turn.does) still sees out
-        serves)
-    by (inr is) = inr is

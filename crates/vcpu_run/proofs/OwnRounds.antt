@@ -1,5 +1,5 @@
 -- The turns of the server units, one behind the other, and what they leave of the pairs of own clients.
-use Rattle.std.proofs.Common.{◌≡◌, ◌≢◌, ◌∙◌, ◌⊎◌, inl, inr, Bool, false, ℕ, ◌+◌, ◌<◌, ◌≤◌, List, [], Option, Some, None, IsSomeAnd, length, refl, slice_get, slice_set, sym, subst, arith}
+use Rattle.std.proofs.Common.{◌≡◌, ◌≢◌, ◌∙◌, ◌⊎◌, inl, inr, Bool, false, ℕ, ◌+◌, ◌<◌, ◌≤◌, List, [], Option, Some, IsSomeAnd, length, refl, slice_get, slice_set, sym, subst, arith}
 use Rattle.std.proofs.lemmas.Option.{slice_get_within}
 use Rattle.vio_num.specs.declared.history.Served.{Served}
 use Rattle.boot_text.specs.declared.plan.Line.{Line}

@@ -1,5 +1,5 @@
 -- Each step of a server unit within a turn keeps what is so of its rows and of what it laid, while its client talks to it.
-use Rattle.std.proofs.Common.{◌≡◌, ◌∙◌, ◌⊎◌, inl, inr, ℕ, ◌≤◌, ◌++◌, All, List, [], ◌∷◌, length, refl, sym, subst}
+use Rattle.std.proofs.Common.{◌∙◌, ◌⊎◌, inl, inr, ℕ, ◌≤◌, ◌++◌, All, List, [], ◌∷◌, length, subst}
 use Rattle.std.proofs.lemmas.List.Elements.{All-head}
 use Rattle.crq_session.specs.EndState.{EndState}
 use Rattle.block_server.specs.Doings.{DoesOne, Doing, DropsAll, KeepsEntry, LogsOutFirst, LosesEntry, Prepares, PutsEntry, StaysAside, StaysUnit, TakesRequest, WritesAnswer}

@@ -1,16 +1,14 @@
 -- What a server unit lays within a turn as it serves the oldest request, up to its answer: data-in of its row behind the slots, and nothing else.
-use Rattle.std.proofs.Common.{◌≡◌, ◌≢◌, ◌∙◌, ◌⊎◌, inl, inr, ℕ, ◌+◌, ◌*◌, ◌<◌, ◌≤◌, ◌++◌, All, Contains, List, [], ◌∷◌, Option, Some, None, length, refl, slice_get, sym, ap, subst, arith}
+use Rattle.std.proofs.Common.{◌≡◌, ◌≢◌, ◌∙◌, ◌⊎◌, inl, inr, ℕ, ◌+◌, ◌*◌, ◌<◌, ◌≤◌, All, Contains, List, Some, length, sym, ap, subst, arith}
 use Rattle.std.proofs.lemmas.List.Elements.{All-weaker}
 use Rattle.vio_num.specs.declared.history.Served.{Served}
 use Rattle.vio_num.specs.declared.names.UnitId.{UnitId}
 use Rattle.page_slots.specs.Stroke.{StrokeValue}
 use Rattle.page_slots.specs.declared.stroke.StrokeName.{StrokeName}
 use Rattle.srp_desc.specs.Pieces.{sum_of}
-use Rattle.srp_iu.specs.Grammar.{Canon}
-use Rattle.srp_iu.specs.declared.response.Rsp.{Rsp as Response}
 use Rattle.srp_iu.specs.declared.unit.Iu.TheVariants as units
-use Rattle.tce_window.specs.PortState.{PortPlace, PortState}
-use Rattle.block_server.specs.Bearing.{BearsRow, BearsWithin, IsNamedPart, NamesData, StrokeBears}
+use Rattle.tce_window.specs.PortState.{PortPlace}
+use Rattle.block_server.specs.Bearing.{BearsRow, IsNamedPart, NamesData, StrokeBears}
 use Rattle.block_server.specs.Carried.{address_of}
 use Rattle.block_server.specs.Doings.{Doing, Prepares, name_for}
 use Rattle.block_server.specs.Judged.{row_in}
@@ -19,11 +17,9 @@ use Rattle.block_server.specs.RowsOn.{row_tag}
 use Rattle.block_server.specs.Standing.{stood}
 use Rattle.block_server.specs.declared.request.Order.{Order}
 use Rattle.block_server.specs.declared.request.Request.{Request}
-use Rattle.block_server.specs.declared.service.Outcome.{Outcome}
 use Rattle.block_server.specs.declared.service.Outcome.TheVariants as outcomes
 use Rattle.block_server.specs.declared.service.Stage.TheVariants as stages
 use Rattle.vscsi_client.specs.State.{ClientState}
-use Rattle.vscsi_client.specs.declared.row.Row.{Row}
 use Rattle.vscsi_client.specs.declared.TheConstants.{DATA_START}
 use Rattle.vcpu_run.specs.DataKept.{IsInwardAt}
 use Rattle.vcpu_run.specs.OwnRows.{IsAnswerDue, KeepsRows}
@@ -33,7 +29,6 @@ use Rattle.vcpu_run.specs.PlainTalk.{Ask, DataLies, IsAsk, IsOwnWindow, IsPendin
 use Rattle.vcpu_run.proofs.OwnData.{IsDataStroke}
 use Rattle.vcpu_run.proofs.OwnDataStays.{LaysData}
 use Rattle.vcpu_run.proofs.OwnRowsServed.{AddsItsRow, adds_its_row, sized_more}
-use Rattle.vcpu_run.proofs.OwnRowsStay.{Strokes}
 use Rattle.vcpu_run.proofs.PlainBorne.{all_more}
 use Rattle.vcpu_run.proofs.PlainData.{GoesOn}
 use Rattle.vcpu_run.proofs.PlainLaid.{data_borne, entry_is, list_places, named_data, page_more}

@@ -1,11 +1,11 @@
 -- The entry of an answer that a server unit puts within a turn: the row in service has its answer.
-use Rattle.std.proofs.Common.{◌≡◌, ◌≢◌, ◌∙◌, ◌⊎◌, inl, inr, ℕ, zero, suc, ◌*◌, ◌<◌, ◌++◌, All, Contains, List, [], ◌∷◌, Option, Some, None, length, refl, slice_get, sym, ap, subst}
+use Rattle.std.proofs.Common.{◌≡◌, ◌≢◌, ◌∙◌, ◌⊎◌, inl, inr, ℕ, ◌++◌, Contains, List, [], ◌∷◌, Some, length, refl, slice_get, sym, ap, subst}
 use Rattle.std.specs.Prelude.{slice_set}
-use Rattle.std.proofs.lemmas.List.Elements.{All-head, All-push, All-tail, All-weaker, Contains-append_left, Contains-push}
+use Rattle.std.proofs.lemmas.List.Elements.{All-head, All-push, All-weaker, Contains-append_left, Contains-push}
 use Rattle.vio_num.specs.declared.history.Served.{Served}
 use Rattle.vio_num.specs.declared.names.UnitId.{UnitId}
 use Rattle.page_slots.specs.Stroke.{StrokeValue}
-use Rattle.tce_window.specs.PortState.{PortPlace, PortState}
+use Rattle.tce_window.specs.PortState.{PortPlace}
 use Rattle.block_server.specs.Doings.{Doing, PutsEntry}
 use Rattle.block_server.specs.Judged.{row_in}
 use Rattle.block_server.specs.RowsOn.{row_tag}
@@ -14,13 +14,11 @@ use Rattle.block_server.specs.Serving.{SettlesRow}
 use Rattle.block_server.specs.declared.request.Request.{Request}
 use Rattle.block_server.specs.declared.service.Outcome.{Outcome}
 use Rattle.block_server.specs.declared.service.Outcome.TheVariants as outcomes
-use Rattle.block_server.specs.declared.service.Stage.{Stage}
 use Rattle.block_server.specs.declared.service.Stage.TheVariants as stages
 use Rattle.vscsi_client.specs.State.{ClientState}
 use Rattle.vscsi_client.specs.declared.row.Row.{Row}
-use Rattle.vscsi_client.specs.declared.TheConstants.{DATA_START}
 use Rattle.vcpu_run.specs.DataKept.{IsInwardAt}
-use Rattle.vcpu_run.specs.OwnRows.{AreAnswersYet, AreSettled, IsAnswerDue, IsRowInService, KeepsRows}
+use Rattle.vcpu_run.specs.OwnRows.{IsAnswerDue, IsRowInService, KeepsRows}
 use Rattle.vcpu_run.specs.PlainBorne.{AreBorne, IsInPlace, IsOfRow, rows_by}
 use Rattle.vcpu_run.specs.PlainNoted.{AreAskedFor, AsksFor, IsAnswerOfRow, IsNoResponse}
 use Rattle.vcpu_run.proofs.LinesShown.{behind_first, contains_first, first_or}

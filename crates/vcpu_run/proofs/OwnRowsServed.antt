@@ -1,6 +1,6 @@
 -- The oldest request is served within a turn of a server unit, up to its answer: its row is added, if it gets one, and what is laid bears data-in
 -- of that.
-use Rattle.std.proofs.Common.{◌≡◌, ◌∙◌, ℕ, ◌+◌, ◌++◌, All, true, Contains, List, [], ◌∷◌, Option, Some, None, append-nil, length, refl, slice_get, sym, ap, subst, arith}
+use Rattle.std.proofs.Common.{◌≡◌, ◌∙◌, ℕ, ◌++◌, All, true, Contains, List, [], ◌∷◌, Option, Some, None, append-nil, length, refl, slice_get, sym, ap, subst}
 use Rattle.std.proofs.lemmas.List.Elements.{All-append, All-cons, All-nil, All-weaker, Contains-push}
 use Rattle.vio_num.specs.declared.history.Served.{Served}
 use Rattle.vio_num.specs.declared.names.UnitId.{UnitId}

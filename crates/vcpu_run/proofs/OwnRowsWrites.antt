@@ -1,5 +1,5 @@
 -- The answer that a server unit writes over the oldest request within a turn: it is due until its entry is put.
-use Rattle.std.proofs.Common.{◌≡◌, ◌≢◌, ◌∙◌, ◌⊎◌, inl, inr, ℕ, ◌+◌, ◌-◌, ◌*◌, ◌%◌, ◌<◌, ◌≤◌, ◌==◌, ◌++◌, nat_le, All, Bool, true, false, List, [], ◌∷◌, Option, Some, None, length, refl, sym, ap, subst, arith}
+use Rattle.std.proofs.Common.{◌≡◌, ◌≢◌, ◌∙◌, ◌⊎◌, inl, inr, ℕ, ◌+◌, ◌-◌, ◌*◌, ◌%◌, ◌≤◌, ◌==◌, ◌++◌, nat_le, Bool, true, false, List, length, refl, sym, ap, subst, arith}
 use Rattle.std.specs.List.{slice_index}
 use Rattle.std.proofs.lemmas.Bool.Decides.{nat_tests}
 use Rattle.std.proofs.lemmas.List.Elements.{All-weaker}
@@ -8,19 +8,15 @@ use Rattle.vio_num.specs.declared.names.UnitId.{UnitId}
 use Rattle.page_slots.specs.Stroke.{StrokeValue}
 use Rattle.page_slots.specs.declared.stroke.StrokeName.{StrokeName}
 use Rattle.srp_iu.specs.declared.unit.Iu.TheVariants as units
-use Rattle.tce_window.specs.PortState.{PortPlace, PortState}
+use Rattle.tce_window.specs.PortState.{PortPlace}
 use Rattle.block_server.specs.Bearing.{IsAnswerPart, StrokeBears}
 use Rattle.block_server.specs.Doings.{Doing, WritesAnswer, name_for}
 use Rattle.block_server.specs.Judged.{row_in}
-use Rattle.block_server.specs.Standing.{IsAnswerTo}
 use Rattle.block_server.specs.Talk.{order_asked}
-use Rattle.block_server.specs.declared.request.Request.{Request}
 use Rattle.block_server.specs.declared.service.Outcome.{Outcome}
 use Rattle.block_server.specs.declared.service.Outcome.TheVariants as outcomes
-use Rattle.block_server.specs.declared.service.Stage.{Stage}
 use Rattle.block_server.specs.declared.service.Stage.TheVariants as stages
 use Rattle.vscsi_client.specs.State.{ClientState}
-use Rattle.vscsi_client.specs.declared.TheConstants.{DATA_START}
 use Rattle.vcpu_run.specs.OwnRows.{IsAnswerDue, KeepsRows}
 use Rattle.vcpu_run.specs.PlainBorne.{AreBorne, IsOfRow, rows_by}
 use Rattle.vcpu_run.specs.PlainNoted.{AreAskedFor, IsAnswerOfRow, IsNoResponse}

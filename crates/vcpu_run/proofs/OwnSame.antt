@@ -1,12 +1,11 @@
 -- A step within a turn of a server unit that changes nothing of what lies between it and its client, or only what is pending behind the oldest.
-use Rattle.std.proofs.Common.{◌≡◌, ◌∙◌, ◌⊎◌, inl, inr, ℕ, ◌+◌, ◌≤◌, ◌++◌, All, List, [], ◌∷◌, Some, None, append-nil, length, length-append, map, refl, sym, ap, subst, arith}
+use Rattle.std.proofs.Common.{◌≡◌, ◌∙◌, ◌⊎◌, inl, inr, ℕ, ◌≤◌, ◌++◌, All, List, [], ◌∷◌, Some, None, append-nil, length, length-append, map, sym, ap, subst, arith}
 use Rattle.std.specs.Prelude.{⊤}
 use Rattle.std.proofs.lemmas.List.Elements.{All-cons, All-head, All-nil}
 use Rattle.vio_num.specs.declared.entry.Entry.{Entry}
 use Rattle.vio_num.specs.declared.names.UnitId.{UnitId}
 use Rattle.crq_ring.specs.Sessions.{of_session}
 use Rattle.crq_ring.specs.declared.rows.PipeRow.{PipeRow}
-use Rattle.crq_session.specs.Answered.{taken_now}
 use Rattle.crq_session.specs.EndState.{EndState}
 use Rattle.srp_iu.specs.declared.unit.Iu.{Iu}
 use Rattle.tce_window.specs.PortState.{PortPlace, PortState}
@@ -22,7 +21,7 @@ use Rattle.block_server.specs.declared.service.Stage.TheVariants as stages
 use Rattle.vscsi_client.specs.State.{ClientState}
 use Rattle.vscsi_client.specs.Units.{slot_address}
 use Rattle.vcpu_run.specs.OwnOver.{coming_to}
-use Rattle.vcpu_run.specs.OwnTurns.{AwaitsAll, GoesOn, HasDone, IsServedAt, IsWorkedOut, KeepsAnswer, StandsOver, StillTalks, TalksWithin, unserved}
+use Rattle.vcpu_run.specs.OwnTurns.{GoesOn, HasDone, IsServedAt, IsWorkedOut, KeepsAnswer, StandsOver, StillTalks, TalksWithin, unserved}
 use Rattle.vcpu_run.specs.PlainTalk.{AnswerStands, ArePending, AreSaidThere, Ask, DataLies, HaveAnswers, IsAnswerBy, IsAsk, IsOwnWindow, KeepsSlots, word_of}
 use Rattle.vcpu_run.proofs.Losing.{of_append}
 use Rattle.vcpu_run.proofs.OwnWindows.{StaysGranted, answers_stay, known_own, known_slots, known_tables, reads_stay, said_stays, usable_stays}

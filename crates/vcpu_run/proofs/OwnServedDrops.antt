@@ -1,6 +1,6 @@
 -- A turn of the server unit at the pair of an own client that talks to it, where its session ends in the turn: it is over behind it, and the client
 -- is as it was.
-use Rattle.std.proofs.Common.{◌≡◌, ◌≢◌, ◌∙◌, ◌⊎◌, ◌+◌, ◌≤◌, ◌++◌, ◌==◌, inl, inr, ℕ, All, true, false, true≢false, IfSome, List, [], Option, Some, None, length, map, slice_get, refl, sym, ap, subst}
+use Rattle.std.proofs.Common.{◌≡◌, ◌∙◌, ◌⊎◌, ◌+◌, ◌≤◌, ◌++◌, ◌==◌, inl, inr, ℕ, All, true, false, true≢false, IfSome, List, [], Option, Some, None, length, map, slice_get, refl, sym, ap, subst}
 use Rattle.std.specs.Borrow.{GName}
 use Rattle.boot_text.specs.declared.plan.Line.{Line}
 use Rattle.boot_text.specs.declared.verb.Verb.{Verb}

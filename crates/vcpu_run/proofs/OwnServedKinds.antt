@@ -1,6 +1,6 @@
 -- What a turn of a server unit puts into its client's queue is of the kinds that its tags say: an entry of the initialisation or an event, a
 -- response, or the answer to a login, whether the client talks to the unit or its session is over, or was.
-use Rattle.std.proofs.Common.{◌≡◌, ◌∙◌, ◌⊎◌, inl, inr, ℕ, ◌==◌, ◌||◌, ◌++◌, cond, All, Bool, true, false, true≢false, List, [], ◌∷◌, Option, Some, None, MatchOption, append-nil, length, refl, sym, ap, subst}
+use Rattle.std.proofs.Common.{◌≡◌, ◌∙◌, ◌⊎◌, inl, inr, ℕ, ◌==◌, ◌||◌, ◌++◌, cond, All, Bool, true, false, true≢false, List, [], ◌∷◌, Some, None, MatchOption, append-nil, length, refl, sym, ap, subst}
 use Rattle.std.proofs.lemmas.Bool.{eqb-true}
 use Rattle.std.proofs.lemmas.List.Elements.{All-append, All-cons, All-head, All-nil, All-tail, All-weaker}
 use Rattle.vio_num.specs.Entry.{initialization_complete, initialize, is_srp_entry, partner_freed, srp_entry}

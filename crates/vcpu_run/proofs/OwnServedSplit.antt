@@ -1,6 +1,6 @@
--- A turn of the server unit at the pair of an own client that talks to it: either it has the rights that it needs, or the session of the unit is over
--- behind it.
-use Rattle.std.proofs.Common.{◌≡◌, ◌∙◌, ◌⊎◌, ◌≤◌, ◌++◌, ◌||◌, inl, inr, ℕ, All, Bool, false, true, List, [], Some, None, length, map, slice_get, refl, sym, ap, ap₂, subst, arith}
+-- A turn of the server unit at the pair of an own client that talks to it: its small steps lead where the two talk still, and then it had the rights
+-- that it needs, or where the session of the unit is over.
+use Rattle.std.proofs.Common.{◌≡◌, ◌∙◌, ◌≤◌, ◌++◌, ◌||◌, inl, ℕ, All, Bool, false, true, List, [], Some, None, length, map, slice_get, refl, sym, ap, ap₂, subst, arith}
 use Rattle.std.specs.Borrow.{GName}
 use Rattle.vio_num.specs.declared.names.UnitId.{UnitId}
 use Rattle.crq_session.specs.EndState.{EndPlace}
@@ -18,27 +18,23 @@ use Rattle.vcpu_run.specs.Credited.{Ended}
 use Rattle.vcpu_run.specs.Machines.{server_id}
 use Rattle.vcpu_run.specs.OwnCounts.{KeepsPair}
 use Rattle.vcpu_run.specs.OwnDoing.{DoesAt, HeardAt}
-use Rattle.vcpu_run.specs.OwnOver.{IsOver}
 use Rattle.vcpu_run.specs.OwnPairs.{doing_of}
-use Rattle.vcpu_run.specs.OwnRows.{KeepsRows}
 use Rattle.vcpu_run.specs.OwnTurns.{StillTalks}
 use Rattle.vcpu_run.specs.PlainBorne.{rows_by}
 use Rattle.vcpu_run.specs.PlainPairs.{ServerBooks, between_of}
-use Rattle.vcpu_run.specs.PlainTalk.{AreSaidThere, AskedParts, Between, InPhase, IsCalm, IsTalking, TalksPlainly}
+use Rattle.vcpu_run.specs.PlainTalk.{AreSaidThere, AskedParts, Between, IsCalm, IsTalking}
 use Rattle.vcpu_run.specs.declared.driver.Driver.{Driver}
 use Rattle.vcpu_run.specs.declared.pair.Pair.{Pair}
 use Rattle.vcpu_run.proofs.Listed.{some_is}
-use Rattle.vcpu_run.proofs.OwnDoes.{TalksOrOver}
 use Rattle.vcpu_run.proofs.OwnHeardOut.{SeesClient, said_long}
 use Rattle.vcpu_run.proofs.OwnHears.{turn_granted}
-use Rattle.vcpu_run.proofs.OwnQuiet.{away_rights, beginning_rights}
 use Rattle.vcpu_run.proofs.OwnReady.{HasItsRights, rights_told}
 use Rattle.vcpu_run.proofs.OwnServedKinds.{PutOfKind, kinds_turn}
 use Rattle.vcpu_run.proofs.OwnServedRows.{kept_begins}
-use Rattle.vcpu_run.proofs.OwnServedTags.{KeepsAll, KeepsTags, all_turn}
+use Rattle.vcpu_run.proofs.OwnServedTags.{KeepsAll, all_turn}
 use Rattle.vcpu_run.proofs.OwnStarts.{still_begins}
 use Rattle.vcpu_run.proofs.PlainPaired.{TurnsOn}
-use Rattle.vcpu_run.proofs.PlainTurned.{lent_at, talk_lent, talks_lent}
+use Rattle.vcpu_run.proofs.PlainTurned.{lent_at}
 
 -- ---- the small steps
 
@@ -123,45 +119,3 @@ still_rights granted home k books books' a b words asked answers unit unit' driv
       slots = ap (λ (place : EndPlace). place.partner_slots) turns.place ∙ calm.ends.server_sees.slots;
       room = calm.own_slots;
     }
-
--- The session is over behind the turn, as the client stood before it; the unit's rows and what it laid stand well.
-abbrev pub DropsAt : (granted home k : ℕ) → ServerBooks → Unit → Driver → (old new : Pair) → Type 0
-DropsAt granted home k books' unit' driver old new =
-    IsOver granted false (doing_of unit' home k books' new) driver.client (end_of [] old.link false) × KeepsRows (doing_of unit' home k books' new) driver.client
-    × KeepsTags (doing_of unit' home k books' new) driver.client
-
--- Either the turn had its rights, or the session is over.
-pub rights_or_drop : (granted : ℕ) (told : List Ended) (home k : ℕ) (books books' : ServerBooks) (a b : List GName) (words : List Word) (unit unit' : Unit) (driver : Driver) (old new : Pair)
-    → slice_get books.units k ≡ Some unit → slice_get books'.units k ≡ Some unit' → unit.id ≡ server_id home k
-    → TurnsOn (server_id home k) books books' k (end_of a old.link true) (end_of b new.link true) (known_of old.window) (known_of new.window)
-    → DoesAt (server_id home k) books books' k (end_of a old.link true) (end_of b new.link true) (known_of old.window) (known_of new.window)
-    → HeardAt books books' k (end_of a old.link true) (end_of b new.link true)
-    → TalksPlainly granted (between_of unit driver old) words → KeepsPair told (server_id home k) (rows_by (server_id home k) books.rows) driver old
-    → HasItsRights (lent_at a [] (between_of unit driver old)) words ⊎ DropsAt granted home k books' unit' driver old new
-rights_or_drop granted told home k books books' a b words unit unit' driver old new there there' id turns does heard plainly keeps = by talks.phase
-  where
-    at : Between
-    at = lent_at a [] (between_of unit driver old)
-
-    talks : TalksPlainly granted at words
-    talks = talks_lent a [] granted (between_of unit driver old) words plainly
-
-    turn : DoesTurn (doing_of unit home k books old) (doing_of unit' home k books' new)
-    turn = does_there home k books books' a b unit unit' driver old new there there' does (calm_rests granted home k books words unit driver old plainly.calm)
-
-    talking : (asked : AskedParts) (answers : List Iu) → IsTalking granted at words asked answers → HasItsRights at words ⊎ DropsAt granted home k books' unit' driver old new
-    talking asked answers talk =
-        let all = talks_kept granted told home k books books' words asked answers unit unit' driver old new id plainly.calm (talk_lent [] [] granted at words asked answers talk) plainly.tabled turn keeps in
-        split all.0 all.1 all.2
-      where
-        split : TalksOrOver granted (doing_of unit' home k books' new) driver.client (end_of [] old.link false) asked.coming (asked.pending ++ asked.coming)
-            → KeepsRows (doing_of unit' home k books' new) driver.client → KeepsTags (doing_of unit' home k books' new) driver.client
-            → HasItsRights at words ⊎ DropsAt granted home k books' unit' driver old new
-        split (inl still) rows tags =
-            inl (still_rights granted home k books books' a b words asked answers unit unit' driver old new there there' turns heard talks.calm talk turn still)
-        split (inr over) rows tags = inr (over, rows, tags)
-
-    by : InPhase granted at words → HasItsRights at words ⊎ DropsAt granted home k books' unit' driver old new
-    by (inl away) = inl (away_rights granted at words talks.calm away)
-    by (inr (inl begun)) = inl (beginning_rights granted at words talks.calm begun)
-    by (inr (inr (asked, answers, talk))) = talking asked answers talk

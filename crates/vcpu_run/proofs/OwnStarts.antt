@@ -1,22 +1,19 @@
 -- A turn of a server unit begins, while its client talks to it: what lies between them is so of where the unit stands.
-use Rattle.std.proofs.Common.{◌≡◌, ◌≢◌, ◌∙◌, ℕ, ◌≤◌, ◌++◌, ◌&&◌, ◌||◌, All, Bool, true, false, List, [], Some, None, drop, length, map, refl, sym, ap, ap₂, subst}
+use Rattle.std.proofs.Common.{◌≡◌, ◌≢◌, ◌∙◌, ℕ, ◌≤◌, ◌++◌, ◌&&◌, ◌||◌, All, Bool, List, [], None, drop, length, refl, sym, ap, ap₂, subst}
 use Rattle.std.proofs.lemmas.List.Elements.{All-nil}
-use Rattle.vio_num.specs.declared.entry.Entry.{Entry}
 use Rattle.vio_num.specs.declared.history.Grant.{Grant}
 use Rattle.vio_num.specs.declared.history.Served.{Served}
 use Rattle.vio_num.specs.declared.names.UnitId.{UnitId}
 use Rattle.crq_ring.specs.Sessions.{of_session}
 use Rattle.crq_ring.specs.declared.rows.PipeRow.{PipeRow}
 use Rattle.crq_session.specs.Answered.{taken_now}
-use Rattle.crq_session.specs.declared.handshake.Handshake.{Handshake}
 use Rattle.srp_iu.specs.declared.unit.Iu.{Iu}
 use Rattle.block_server.specs.Doings.{Doing, doing_at}
 use Rattle.block_server.specs.Receipts.{is_down}
 use Rattle.block_server.specs.Talk.{Word, to_come}
 use Rattle.block_server.specs.declared.service.Stage.{Stage}
-use Rattle.vcpu_run.specs.OwnOver.{coming_to}
-use Rattle.vcpu_run.specs.OwnTurns.{HasDone, IsServedAt, MayAnswer, MayRead, StillTalks, TalksWithin, unserved}
-use Rattle.vcpu_run.specs.PlainTalk.{AreSaidThere, Ask, AskedParts, Between, DataLies, HaveAnswers, IsCalm, IsTalking, word_of}
+use Rattle.vcpu_run.specs.OwnTurns.{IsServedAt, MayAnswer, MayRead, StillTalks, TalksWithin, unserved}
+use Rattle.vcpu_run.specs.PlainTalk.{AreSaidThere, AskedParts, Between, DataLies, HaveAnswers, IsCalm, IsTalking}
 
 -- where the unit stands
 abbrev pub doing_of : Between → (name : UnitId) → List Served → List Grant → Doing

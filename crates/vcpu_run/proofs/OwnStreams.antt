@@ -1,9 +1,8 @@
 -- What a client is to look at, behind answers that it kept: what of it answers, what tells something else, and what stands behind the last event.
-use Rattle.std.proofs.Common.{◌≡◌, ◌≢◌, ◌∙◌, ◌⊎◌, inl, inr, ℕ, ◌++◌, ◌==◌, ◌&&◌, All, Bool, true, false, true≢false, cond, List, [], ◌∷◌, arith, refl, sym, ap, ap₂, subst}
+use Rattle.std.proofs.Common.{◌≡◌, ◌≢◌, ◌∙◌, inl, inr, ℕ, ◌++◌, ◌==◌, ◌&&◌, All, Bool, true, false, true≢false, cond, List, [], ◌∷◌, arith, refl, sym, ap}
 use Rattle.std.proofs.lemmas.Bool.Decides.{nat_tests}
-use Rattle.std.proofs.lemmas.List.Elements.{All-cons, All-head, All-nil, All-tail}
-use Rattle.std.specs.Prelude.{⊤}
-use Rattle.vio_num.specs.Entry.{entry_format, first_byte, initialization_complete, initialize, is_srp_entry, partner_freed}
+use Rattle.std.proofs.lemmas.List.Elements.{All-head, All-tail}
+use Rattle.vio_num.specs.Entry.{entry_format, first_byte, is_srp_entry}
 use Rattle.vio_num.specs.declared.entry.Entry.{Entry}
 use Rattle.block_server.specs.Closings.{is_event}
 use Rattle.vcpu_run.specs.OwnOver.{HasEntry, IsNews, IsShake, NoneBehindGone, answers_among, behind_gone, news_among, tells_gone}
@@ -65,15 +64,6 @@ pub behind_last : (entry : Entry) (entries : List Entry) → tells_gone entries 
 behind_last entry entries none is =
     ap (λ b. cond b (behind_gone entries) (cond (is_event entry) entries (entry ∷ entries))) none ∙ ap (λ b. cond b entries (entry ∷ entries)) is
 
-pub behind_none : (entries : List Entry) → tells_gone entries ≡ false → behind_gone entries ≡ entries
-behind_none [] none = refl
-behind_none (entry ∷ entries) none = by (is_event entry) refl none
-  where
-    by : (b : Bool) → is_event entry ≡ b → cond b true (tells_gone entries) ≡ false → behind_gone (entry ∷ entries) ≡ entry ∷ entries
-    by true is none = absurd (true≢false none)
-    by false is none =
-        ap (λ b. cond b (behind_gone entries) (cond (is_event entry) entries (entry ∷ entries))) none ∙ ap (λ b. cond b entries (entry ∷ entries)) is
-
 -- ---- behind answers that are kept
 
 pub answers_kept : (kept entries : List Entry) → AreSrp kept → answers_among (kept ++ entries) ≡ kept ++ answers_among entries
@@ -112,14 +102,6 @@ none_behind (entry ∷ kept) entries are none = (
 )
 
 -- ---- one that is among them
-
--- nothing stands behind the last event but where something tells so
-pub empty_gone : (entries : List Entry) → behind_gone entries ≡ [] → (entries ≡ []) ⊎ (tells_gone entries ≡ true)
-empty_gone entries none = by (tells_gone entries) refl
-  where
-    by : (b : Bool) → tells_gone entries ≡ b → (entries ≡ []) ⊎ (b ≡ true)
-    by true is = inr refl
-    by false is = inl (sym (behind_none entries is) ∙ none)
 
 no_news : (entry : Entry) (front rest : List Entry) → is_srp_entry entry ≡ false → news_among (front ++ entry ∷ rest) ≡ [] → ⊥
 no_news entry [] rest isnt e = no_items entry (news_among rest) (sym (news_other entry rest isnt) ∙ e)

@@ -1,10 +1,7 @@
 -- No stroke of a client's window is gone behind a step of its server unit; and how far the client's line came does not change with it.
-use Rattle.std.proofs.Common.{◌≡◌, ◌∙◌, ◌⊎◌, inl, inr, ℕ, true, List, [], ◌∷◌, Option, Some, None, sym, ap, subst}
-use Rattle.crq_session.specs.EndState.{EndState}
+use Rattle.std.proofs.Common.{◌≡◌, ◌⊎◌, inl, inr, List, [], ◌∷◌, Option, Some, sym, ap, subst}
 use Rattle.page_slots.specs.Stroke.{StrokeValue}
 use Rattle.unit_region.specs.RegionLines.{IsOn}
-use Rattle.boot_text.specs.declared.verb.Verb.{Verb}
-use Rattle.boot_text.specs.declared.verb.Verb.TheVariants as verbs
 use Rattle.block_server.specs.Bearing.{BearsRow, IsNamedPart, IsAnswerPart, StrokeBears}
 use Rattle.block_server.specs.Doings.{Does, DoesOne, Doing, DropsAll, KeepsEntry, LeadsOver, LogsOutFirst, LosesEntry, Prepares, PutsEntry, TakesRequest, WritesAnswer, name_for}
 use Rattle.block_server.specs.Judged.{row_in}
@@ -12,10 +9,6 @@ use Rattle.block_server.specs.Ranges.{Known, known_in}
 use Rattle.block_server.specs.Standing.{stood}
 use Rattle.block_server.specs.Talk.{StaysKnown}
 use Rattle.tce_window.specs.PortState.{PortState}
-use Rattle.vscsi_client.specs.State.{ClientState}
-use Rattle.vcpu_run.specs.OwnPairs.{ComesOver}
-use Rattle.vcpu_run.specs.declared.script.Progress.{Progress}
-use Rattle.vcpu_run.specs.declared.script.Progress.TheVariants as progress
 use Rattle.vcpu_run.proofs.OwnWindows.{known_slots}
 use Rattle.vcpu_run.proofs.PlainRejected.{StrokesStay, adds_stay}
 
@@ -65,10 +58,3 @@ leads_strokes (next ∷ over) d d' leads = λ page stroke is. leads_strokes over
 -- nor behind a turn
 pub turn_strokes : (d d' : Doing) → Does d d' → StrokesStay d.client.strokes d'.client.strokes
 turn_strokes d d' does = leads_strokes does.over d d' does.leads
-
--- Of the client's queue it matters alone whether it is registered.
-pub comes_moves : (verb : Verb) (p : Progress) (s : ClientState) (own own' : EndState) → own'.registered ≡ own.registered → ComesOver verb p s own → ComesOver verb p s own'
-comes_moves verbs.Login p s own own' same is = is
-comes_moves verbs.Reset progress.Freed s own own' same is = is
-comes_moves verbs.Reset p s own own' same is = (is.0, same ∙ is.1)
-comes_moves verb p s own own' same is = (is.0, same ∙ is.1)

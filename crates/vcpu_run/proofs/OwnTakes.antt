@@ -1,5 +1,5 @@
 -- A request that a server unit takes while its client talks to it: what was to come is pending behind all, and could be read.
-use Rattle.std.proofs.Common.{◌≡◌, ◌∙◌, ℕ, ◌+◌, ◌*◌, ◌/◌, ◌%◌, ◌<◌, ◌≤◌, ◌++◌, All, List, [], ◌∷◌, append-nil, append_assoc, drop, length, map, refl, sym, ap, subst, arith}
+use Rattle.std.proofs.Common.{◌≡◌, ◌∙◌, ℕ, ◌+◌, ◌++◌, All, List, [], ◌∷◌, append-nil, append_assoc, drop, length, map, sym, ap, subst, arith}
 use Rattle.std.specs.Prelude.{⊤}
 use Rattle.std.proofs.lemmas.List.Elements.{All-head, All-push, All-tail}
 use Rattle.crq_session.specs.EndState.{EndState}

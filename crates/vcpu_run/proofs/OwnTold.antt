@@ -29,9 +29,8 @@ use Rattle.vcpu_run.specs.OwnKinds.{IsAskedTag}
 use Rattle.vcpu_run.specs.OwnPairs.{IsOverOwn, IsOwnPair, IsReadyOwnPair, TalksOwn}
 use Rattle.vcpu_run.specs.OwnRuns.{AreOwn}
 use Rattle.vcpu_run.specs.Pairs.{AreOfOneHome}
-use Rattle.vcpu_run.specs.PlainBorne.{AreBorne, rows_by}
+use Rattle.vcpu_run.specs.PlainBorne.{rows_by}
 use Rattle.vcpu_run.specs.PlainClients.{HasAnswerRow, granted_in, grants_of, strokes_of}
-use Rattle.vcpu_run.specs.PlainNoted.{AreAnswers, AreAskedFor, IsLaidAnswer}
 use Rattle.vcpu_run.specs.PlainPairs.{ServerBooks, books_of}
 use Rattle.vcpu_run.specs.PlainRejected.{TellsOf}
 use Rattle.vcpu_run.specs.PlainScripts.{told_in}

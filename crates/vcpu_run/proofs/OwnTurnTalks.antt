@@ -16,7 +16,7 @@ use Rattle.vcpu_run.specs.OwnClients.{IsOwnClient}
 use Rattle.vcpu_run.specs.OwnPairs.{SparesLines, TalksOwn}
 use Rattle.vcpu_run.specs.PlainClients.{granted_in, grants_of, lines_of, tables_in, written_by}
 use Rattle.vcpu_run.specs.PlainPairs.{ServerBooks, between_of}
-use Rattle.vcpu_run.specs.PlainScripts.{OfUnit, PairIs, PairPlainly, PairRestsPlainly, PairSteppedOn, PairTalks, PairTalksOn, StandsAt}
+use Rattle.vcpu_run.specs.PlainScripts.{OfUnit, PairIs, PairPlainly, PairRestsPlainly, PairSteppedOn, PairTalksOn, StandsAt}
 use Rattle.vcpu_run.specs.PlainSteps.{FollowsReplay, HasCome, IsPlainVerb, RestsAs, SparesTables, WasFailed, granted_by}
 use Rattle.vcpu_run.specs.PlainTalk.{TalksPlainly, owes}
 use Rattle.vcpu_run.specs.Replay.{Replay, after_line, any_share}

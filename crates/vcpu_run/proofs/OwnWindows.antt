@@ -1,6 +1,6 @@
 -- What stays of a client's window where nothing is laid in it, or elsewhere: what shows in the slots, what the entries that are to come ask, what
 -- its tables say, and which rights its entries have.
-use Rattle.std.proofs.Common.{◌≡◌, ◌∙◌, ◌⊎◌, inl, inr, ℕ, ◌+◌, ◌*◌, ◌/◌, ◌%◌, ◌<◌, ◌≤◌, All, List, [], ◌∷◌, Option, Some, IsSome, length, map, refl, sym, take, ap, subst, arith}
+use Rattle.std.proofs.Common.{◌≡◌, ◌∙◌, inl, inr, ℕ, ◌*◌, ◌/◌, ◌%◌, ◌<◌, ◌≤◌, All, List, [], ◌∷◌, Option, IsSome, length, map, sym, take, ap, subst, arith}
 use Rattle.std.specs.Prelude.{⊤}
 use Rattle.std.proofs.lemmas.List.Elements.{All-head, All-tail, All-weaker}
 use Rattle.page_slots.specs.Stroke.{StrokeValue}

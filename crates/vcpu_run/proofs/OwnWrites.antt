@@ -1,5 +1,5 @@
 -- An answer that a server unit writes over the oldest request within a turn, while its client talks to it: it stands there, and might be written.
-use Rattle.std.proofs.Common.{◌≡◌, ◌≢◌, ◌∙◌, ◌⊎◌, inl, inr, ℕ, ◌+◌, ◌%◌, ◌≤◌, ◌++◌, All, List, [], ◌∷◌, None, append-nil, length, map, refl, sym, ap, subst, arith}
+use Rattle.std.proofs.Common.{◌≡◌, ◌≢◌, ◌∙◌, inl, ℕ, ◌+◌, ◌%◌, ◌≤◌, ◌++◌, All, List, [], ◌∷◌, None, append-nil, length, map, refl, sym, subst, arith}
 use Rattle.std.specs.Prelude.{⊤}
 use Rattle.std.proofs.lemmas.List.Elements.{All-head, All-weaker}
 use Rattle.vio_num.specs.declared.entry.Entry.{Entry}
@@ -15,11 +15,10 @@ use Rattle.block_server.specs.Talk.{Suits, order_asked}
 use Rattle.block_server.specs.declared.request.Request.{Request}
 use Rattle.block_server.specs.declared.service.Outcome.{Outcome}
 use Rattle.block_server.specs.declared.service.Stage.{Stage}
-use Rattle.block_server.specs.declared.service.Stage.TheVariants as stages
 use Rattle.vscsi_client.specs.State.{ClientState}
 use Rattle.vscsi_client.specs.Units.{slot_address}
 use Rattle.vscsi_client.specs.declared.TheConstants.{SLOTS}
-use Rattle.vcpu_run.specs.OwnTurns.{GoesOn, HasDone, IsServedAt, IsWorkedOut, StandsOver, StillTalks, TalksWithin, unserved}
+use Rattle.vcpu_run.specs.OwnTurns.{GoesOn, HasDone, IsServedAt, IsWorkedOut, StillTalks, TalksWithin, unserved}
 use Rattle.vcpu_run.specs.PlainTalk.{AnswerStands, AreApart, ArePending, AreSaidThere, Ask, DataLies, IsAsk, IsOwnWindow, IsPendingAs, KeepsSlots, word_of}
 use Rattle.vcpu_run.proofs.OwnLays.{bears_lay, is_shown, lays_slots, lays_tables}
 use Rattle.vcpu_run.proofs.OwnSame.{done_on, goes_on, told_on}

@@ -45,9 +45,6 @@ idle_due s idle tag slot written = absurd (cc (idle, written))
 
 -- ---- one step
 
-same_due : (s s' : ClientState) → s'.login ≡ s.login → s'.due ≡ s.due → WrittenDue s → WrittenDue s'
-same_due s s' login due is tag slot written = ap (list_any is_login_due) due ∙ is tag slot (sym login ∙ written)
-
 more_due : (s s' : ClientState) (more : List Due) → s'.login ≡ s.login → s'.due ≡ s.due ++ more → WrittenDue s → WrittenDue s'
 more_due s s' more login due is tag slot written = ap (list_any is_login_due) due ∙ due_more s.due more (is tag slot (sym login ∙ written))
 

@@ -1,5 +1,5 @@
 -- A turn of a plain client's login that finds its queue not registered: it registers the queue, and tells its server unit.
-use Rattle.std.proofs.Common.{◌≡◌, ◌≢◌, ◌∙◌, ◌⊎◌, inl, inr, ℕ, ◌+◌, ◌≤◌, ◌++◌, Bool, true, false, true≢false, cond, List, [], ◌∷◌, None, arith, length, refl, sym, ap, subst}
+use Rattle.std.proofs.Common.{◌≡◌, ◌∙◌, ◌⊎◌, inl, inr, ℕ, ◌≤◌, ◌++◌, Bool, true, false, true≢false, cond, List, [], ◌∷◌, None, arith, length, refl, sym, ap, subst}
 use Rattle.std.specs.List.{list_any}
 use Rattle.std.proofs.lemmas.List.Elements.{All-cons, All-nil}
 use Rattle.vio_num.specs.declared.entry.Entry.{Entry}

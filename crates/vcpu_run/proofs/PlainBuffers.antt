@@ -1,16 +1,16 @@
 -- The data-in of a plain client's command, by its buffer: the table stands, if it has one, and all pieces lie in the pages of the data.
 use Rattle.std.specs.Prelude.{MatchBool, MatchOption}
-use Rattle.std.proofs.Common.{◌≡◌, ◌∙◌, ℕ, zero, suc, ◌+◌, ◌*◌, ◌/◌, ◌^◌, ◌<◌, ◌≤◌, ◌==◌, ◌&&◌, nat_le, nat_lt, All, Bool, true, false, cond, List, [], ◌∷◌, Option, Some, None, get_or, length, refl, sym, ap, subst, arith, eqb-true}
+use Rattle.std.proofs.Common.{◌≡◌, ◌∙◌, ℕ, ◌+◌, ◌*◌, ◌^◌, ◌<◌, ◌≤◌, ◌==◌, nat_le, nat_lt, All, Bool, true, false, cond, List, [], ◌∷◌, Option, Some, None, get_or, length, refl, sym, ap, subst, arith, eqb-true}
 use Rattle.std.proofs.lemmas.Bool.Decides.{nat_tests}
 use Rattle.std.proofs.lemmas.List.Elements.{All-cons, All-nil, All-weaker}
-use Rattle.srp_desc.specs.Pieces.{Named, descs_in, is_complete, is_count_bad, named, refused, sum_of, summing_to}
+use Rattle.srp_desc.specs.Pieces.{descs_in, is_complete, is_count_bad, named, refused, sum_of, summing_to}
 use Rattle.srp_desc.specs.Pieces.{pieces as named_by}
 use Rattle.srp_desc.specs.Tables.{table_len, tables_of}
 use Rattle.srp_desc.specs.declared.pieces.DescFault.{DescFault}
 use Rattle.srp_desc.specs.declared.pieces.DescFault.TheVariants.{Count, Large, Total}
 use Rattle.srp_desc.specs.declared.pieces.TheConstants.{MAX_DATA_LEN}
 use Rattle.srp_iu.specs.declared.buffer.Buffer.{Buffer}
-use Rattle.srp_iu.specs.declared.buffer.Buffer.TheVariants.{Absent, Direct, Indirect}
+use Rattle.srp_iu.specs.declared.buffer.Buffer.TheVariants.{Absent, Direct}
 use Rattle.srp_iu.specs.declared.buffer.Desc.{Desc}
 use Rattle.srp_iu.specs.declared.command.Cmd.{Cmd}
 use Rattle.srp_iu.specs.declared.unit.Iu.TheVariants as units

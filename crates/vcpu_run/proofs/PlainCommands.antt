@@ -1,14 +1,14 @@
 -- A command, a task or a logout that a plain client sent: what is so between it and its server unit is so behind that, and what it asked is
 -- to come.
-use Rattle.std.proofs.Common.{◌≡◌, ◌≢◌, ◌∙◌, ℕ, ◌<◌, ◌≤◌, Bool, true, false, cond, List, [], ◌∷◌, Option, Some, None, length, refl, sym, ap, subst, arith}
+use Rattle.std.proofs.Common.{◌≡◌, ◌∙◌, ℕ, ◌≤◌, Bool, true, false, cond, List, [], ◌∷◌, Option, Some, None, length, refl, sym, subst, arith}
 use Rattle.std.specs.Prelude.{⊤}
 use Rattle.vio_num.specs.Entry.{srp_entry}
-use Rattle.crq_session.specs.Answered.{MaySend, Sends as SendsEntry}
+use Rattle.crq_session.specs.Answered.{Sends as SendsEntry}
 use Rattle.crq_session.specs.EndState.{OnlyReserves, OnlySends}
 use Rattle.srp_iu.specs.declared.unit.Iu.{Iu}
 use Rattle.srp_iu.specs.declared.unit.Iu.TheVariants as units
 use Rattle.vscsi_client.specs.Ports.{Lays, Ports, UnitPut, unit_write}
-use Rattle.vscsi_client.specs.Sending.{LoggedOut, Put, PutsUnit, Submitted, Tasked, logout_unit, refused_by, task_unit}
+use Rattle.vscsi_client.specs.Sending.{LoggedOut, Put, Submitted, Tasked, logout_unit, refused_by, task_unit}
 use Rattle.vscsi_client.specs.Spans.{data_span, first_sharing, meets, no_pages, op_in_range, table_span}
 use Rattle.vscsi_client.specs.State.{next_tag}
 use Rattle.vscsi_client.specs.Units.{slot_address, FitsOp}
@@ -21,7 +21,7 @@ use Rattle.vscsi_client.specs.declared.stage.Stage.TheVariants.{Idle}
 use Rattle.vcpu_run.proofs.PlainBuffers.{op_data}
 use Rattle.vcpu_run.proofs.PlainData.{data_kept, data_on, unit_data}
 use Rattle.vcpu_run.proofs.PlainOps.{TableLies, table_lies}
-use Rattle.vcpu_run.specs.PlainTalk.{Ask, Between, DataLies, IsAsk, IsCalm, IsOwnWindow, KeepsTables, ServerStays, TalksPlainly, client_ports, shown, word_of}
+use Rattle.vcpu_run.specs.PlainTalk.{Ask, Between, DataLies, IsCalm, IsOwnWindow, KeepsTables, ServerStays, TalksPlainly, client_ports, shown, word_of}
 use Rattle.vcpu_run.proofs.PlainAsks.{Sends, SendsOut}
 use Rattle.vcpu_run.proofs.PlainPuts.{LeavesUnit, LeavesWindow, come_still, entry_put, tables_leave, unit_laid}
 use Rattle.vcpu_run.proofs.PlainSays.{EntryPut, plainly_out, plainly_sends}

@@ -1,6 +1,6 @@
 -- The data of what a plain client asked: where a server unit writes them, and what leaves its tables as they are.
 use Rattle.std.specs.Prelude.{⊤}
-use Rattle.std.proofs.Common.{◌≡◌, ◌≢◌, ◌∙◌, ◌⊎◌, inl, inr, ℕ, zero, suc, ◌+◌, ◌*◌, ◌/◌, ◌<◌, ◌≤◌, ◌++◌, ◌&&◌, nat_lt, All, Bool, true, false, true≢false, cond, List, [], ◌∷◌, Option, Some, get_or, length, refl, slice_get, sym, ap, subst, arith, ◌%◌}
+use Rattle.std.proofs.Common.{◌≡◌, ◌∙◌, ◌⊎◌, inl, inr, ℕ, zero, suc, ◌+◌, ◌*◌, ◌/◌, ◌<◌, ◌≤◌, ◌++◌, ◌&&◌, nat_lt, All, Bool, true, false, true≢false, cond, List, [], ◌∷◌, Option, Some, length, refl, slice_get, sym, ap, subst, arith, ◌%◌}
 use Rattle.std.proofs.lemmas.Bool.Decides.{nat_tests}
 use Rattle.std.proofs.lemmas.List.Elements.{All-cons, All-head, All-nil, All-tail, All-weaker, All-push}
 use Rattle.srp_desc.specs.Pieces.{is_complete, named, pieces, sum_of}

@@ -1,5 +1,5 @@
 -- A line that fails its partition, as the plain clients of that see it: the queue of each is freed, and no line is left.
-use Rattle.std.proofs.Common.{◌≡◌, ◌∙◌, ◌⊎◌, inl, inr, ℕ, ◌+◌, ◌≤◌, ◌==◌, ◌++◌, All, cond, Bool, true, false, true≢false, List, [], ◌∷◌, Option, Some, None, IfSome, IsSomeAnd, length, refl, slice_get, sym, ap, subst, arith}
+use Rattle.std.proofs.Common.{◌≡◌, ◌∙◌, ◌⊎◌, inl, inr, ℕ, ◌≤◌, ◌==◌, ◌++◌, All, cond, Bool, true, false, List, [], ◌∷◌, Option, Some, None, IfSome, IsSomeAnd, length, refl, slice_get, sym, ap, subst, arith}
 use Rattle.std.proofs.lemmas.List.Elements.{All-cons, All-nil, All-push}
 use Rattle.std.proofs.lemmas.Option.{slice_get_past}
 use Rattle.boot_text.specs.declared.plan.Line.{Line}
@@ -23,9 +23,9 @@ use Rattle.vcpu_run.specs.Pairs.{AreDriven}
 use Rattle.vcpu_run.specs.PlainClients.{granted_in}
 use Rattle.vcpu_run.specs.PlainPairs.{between_of}
 use Rattle.vcpu_run.specs.PlainRejected.{TellsOf, TellsRejection}
-use Rattle.vcpu_run.specs.PlainScripts.{AllFailPlainly, IsPlainSeat, OfUnit, PairAsks, PairFailed, PairIs, PairTalks, QuietsPlainly, StandsAt, StandsPlainly, StandsPlainlyAt, TurnsPlainly, TurnedPlainly, after_ended, awaits, owes_at, owes_to, rows_in, told_in}
+use Rattle.vcpu_run.specs.PlainScripts.{AllFailPlainly, IsPlainSeat, OfUnit, PairAsks, PairFailed, PairIs, PairTalks, QuietsPlainly, StandsAt, StandsPlainly, StandsPlainlyAt, TurnsPlainly, after_ended, awaits, owes_at, owes_to, rows_in, told_in}
 use Rattle.vcpu_run.specs.PlainSteps.{AsksAnew, FollowsReplay, HasCome, IsNewWord, KeepsLogin, RestsAs, WasFailed, granted_by}
-use Rattle.vcpu_run.specs.PlainTalk.{Between, TalksPlainly}
+use Rattle.vcpu_run.specs.PlainTalk.{TalksPlainly}
 use Rattle.vcpu_run.specs.Replay.{IsReplayed, Replay, before_lines, ends_as}
 use Rattle.vcpu_run.specs.Scripts.{AreSeats}
 use Rattle.vcpu_run.specs.TakenScripts.{AllGive}

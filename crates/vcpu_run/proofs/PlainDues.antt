@@ -1,5 +1,5 @@
 -- In the midst of a turn of a plain client's login: the login becomes due, its unit is written, and its entry is put.
-use Rattle.std.proofs.Common.{◌≡◌, ◌≢◌, ◌∙◌, inl, inr, ℕ, ◌+◌, ◌++◌, ◌&&◌, Bool, true, false, true≢false, cond, not, List, [], ◌∷◌, length, length-append, refl, sym, ap, subst}
+use Rattle.std.proofs.Common.{◌≡◌, ◌∙◌, inl, inr, ℕ, ◌+◌, ◌++◌, ◌&&◌, Bool, true, false, true≢false, cond, not, List, [], ◌∷◌, length, length-append, refl, sym, ap, subst}
 use Rattle.std.specs.List.{list_any}
 use Rattle.vio_num.specs.declared.entry.Entry.{Entry}
 use Rattle.crq_session.specs.EndState.{EndState}

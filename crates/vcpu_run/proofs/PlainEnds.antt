@@ -1,5 +1,5 @@
 -- How the login of a plain client ends: by the answer that grants it, behind which nothing else is asked, or by the one that rejects it.
-use Rattle.std.proofs.Common.{◌≡◌, ◌≢◌, ◌∙◌, inl, inr, ℕ, ◌+◌, ◌<◌, ◌≤◌, ◌++◌, not, nat_le, All, Bool, true, false, true≢false, cond, List, [], ◌∷◌, Some, None, append_assoc, is_some, length, min, refl, sym, ap, ap₂, subst, arith}
+use Rattle.std.proofs.Common.{◌≡◌, ◌≢◌, ◌∙◌, inl, inr, ℕ, ◌<◌, ◌≤◌, ◌++◌, not, nat_le, All, Bool, true, false, true≢false, cond, List, [], ◌∷◌, Some, None, append_assoc, is_some, length, min, refl, sym, ap, ap₂, subst, arith}
 use Rattle.std.proofs.lemmas.Bool.Decides.{nat_tests}
 use Rattle.std.proofs.lemmas.List.Elements.{All-head, All-nil}
 use Rattle.vio_num.specs.declared.entry.Entry.{Entry}

@@ -1,5 +1,5 @@
 -- What a plain client that waits for a login finds an entry to be: the answer to another request, or what became of its login.
-use Rattle.std.proofs.Common.{◌≡◌, ◌≢◌, ◌∙◌, ◌⊎◌, inl, inr, ℕ, ◌≤◌, ◌==◌, Bool, true, false, true≢false, List, Option, Some, None, IsSome, MatchOption, length, refl, sym, ap, subst, arith}
+use Rattle.std.proofs.Common.{◌≡◌, ◌∙◌, ◌⊎◌, inl, inr, ℕ, ◌≤◌, ◌==◌, true, false, true≢false, List, Option, Some, None, IsSome, MatchOption, length, refl, sym, ap, subst, arith}
 use Rattle.vio_num.specs.Entry.{first_byte, is_srp_entry, srp_entry}
 use Rattle.vio_num.specs.declared.entry.Entry.{Entry}
 use Rattle.srp_iu.proofs.GrammarLaws.{spelled_bytes_are_accepted}

@@ -1,19 +1,17 @@
 -- What a plain client finds an entry to be that tells of the answer to the oldest request that is outstanding: that answer, and nothing else.
-use Rattle.std.proofs.Common.{◌≡◌, ◌≢◌, ◌∙◌, ◌⊎◌, inl, inr, ℕ, ◌+◌, ◌*◌, ◌/◌, ◌%◌, ◌<◌, ◌≤◌, ◌==◌, ◌++◌, Bool, true, false, true≢false, cond, List, [], ◌∷◌, Option, Some, None, IsSome, find, length, option_map, refl, sym, ap, subst, arith}
-use Rattle.std.specs.Prelude.{⊤, IsSomeAnd, MatchOption, slice_index}
+use Rattle.std.proofs.Common.{◌≡◌, ◌∙◌, inl, inr, ℕ, ◌≤◌, ◌==◌, true, false, true≢false, cond, List, ◌∷◌, Option, Some, None, IsSome, find, length, option_map, refl, sym, ap, subst, arith}
+use Rattle.std.specs.Prelude.{IsSomeAnd, MatchOption}
 use Rattle.std.proofs.lemmas.Bool.{eq-eqb}
-use Rattle.std.proofs.lemmas.Bool.Decides.{nat_tests}
 use Rattle.vio_num.specs.Entry.{first_byte, is_srp_entry, srp_entry}
 use Rattle.vio_num.specs.declared.entry.Entry.{Entry}
 use Rattle.srp_iu.specs.Grammar.{Spells}
-use Rattle.srp_iu.specs.Refusal.{fault_of}
 use Rattle.srp_iu.specs.declared.response.Rsp.{Rsp}
 use Rattle.srp_iu.specs.declared.unit.Iu.{Iu}
 use Rattle.srp_iu.specs.declared.unit.Iu.TheVariants as units
 use Rattle.srp_iu.proofs.GrammarLaws.{spelled_bytes_are_accepted}
-use Rattle.tce_window.specs.PortState.{FindsInUse, PortState, Reads}
+use Rattle.tce_window.specs.PortState.{FindsInUse, PortState}
 use Rattle.block_server.specs.Talk.{tag_asked}
-use Rattle.vscsi_client.specs.Slots.{AreIn, Holds, HoldsNone, IsSlotInUse, is_event}
+use Rattle.vscsi_client.specs.Slots.{AreIn, IsSlotInUse}
 use Rattle.vscsi_client.specs.Taking.{HoldsNoAnswer, IsNoAnswer, Judges, slot_of}
 use Rattle.vscsi_client.specs.Units.{slot_address}
 use Rattle.vscsi_client.specs.declared.TheConstants.{SLOTS}

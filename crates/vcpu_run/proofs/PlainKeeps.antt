@@ -1,11 +1,10 @@
 -- A plain client that keeps the answer to a request for later, in a turn of a login.
-use Rattle.std.proofs.Common.{◌≡◌, ◌∙◌, ◌⊎◌, ℕ, ◌≤◌, ◌++◌, All, Bool, true, List, [], ◌∷◌, Option, Some, None, is_some, length, map, min, nat_le, sym, ap, ap₂, subst}
+use Rattle.std.proofs.Common.{◌≡◌, ◌∙◌, ◌⊎◌, ℕ, ◌≤◌, ◌++◌, All, true, List, [], Option, Some, None, is_some, length, min, nat_le, sym, ap, ap₂, subst}
 use Rattle.std.specs.Prelude.{⊤}
 use Rattle.vio_num.specs.declared.entry.Entry.{Entry}
 use Rattle.srp_iu.specs.declared.unit.Iu.{Iu}
 use Rattle.block_server.specs.Talk.{MayAsk, talk_of, to_come}
 use Rattle.block_server.specs.declared.unit.Unit.{Unit}
-use Rattle.vscsi_client.specs.State.{ClientState}
 use Rattle.vscsi_client.specs.declared.outgoing.Outgoing.{Outgoing}
 use Rattle.vscsi_client.specs.declared.stage.Stage.{Stage}
 use Rattle.vscsi_client.specs.declared.stage.Stage.TheVariants.{Idle}

@@ -1,6 +1,6 @@
 -- Lists of what a client asked: their order, and what is counted of them, as one is put behind or the oldest is served.
-use Rattle.std.proofs.Common.{◌≡◌, ◌≢◌, ◌∙◌, ℕ, suc, ◌+◌, ◌<◌, ◌≤◌, ◌++◌, ◌&&◌, not, nat_le, All, Bool, true, false, true≢false, cond, List, [], ◌∷◌, append-nil, append_assoc, length, refl, sym, ap, subst, arith}
-use Rattle.std.proofs.lemmas.List.Elements.{All-cons, All-head, All-nil, All-push, All-tail, All-weaker}
+use Rattle.std.proofs.Common.{◌≡◌, ◌≢◌, ◌∙◌, ℕ, ◌+◌, ◌<◌, ◌++◌, All, Bool, true, false, true≢false, cond, List, [], ◌∷◌, refl, sym, ap, arith}
+use Rattle.std.proofs.lemmas.List.Elements.{All-cons, All-head, All-nil, All-push, All-tail}
 use Rattle.srp_iu.specs.declared.unit.Iu.{Iu}
 use Rattle.srp_iu.specs.declared.unit.Iu.TheVariants as units
 use Rattle.tce_window.specs.PortState.{PortState}

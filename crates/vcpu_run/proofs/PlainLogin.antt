@@ -1,10 +1,7 @@
 -- A login that a plain client writes and puts: what is so between it and its server unit is so behind that, and the login is to come.
-use Rattle.std.proofs.Common.{◌≡◌, ◌≢◌, ◌∙◌, ◌⊎◌, inl, inr, ℕ, ◌+◌, ◌<◌, ◌≤◌, ◌++◌, Bool, true, false, true≢false, cond, List, [], ◌∷◌, Option, Some, None, length, length-append, refl, sym, ap, subst, arith}
-use Rattle.std.specs.Prelude.{⊤}
+use Rattle.std.proofs.Common.{◌≡◌, ◌∙◌, inl, inr, ℕ, ◌≤◌, ◌++◌, false, true≢false, List, [], ◌∷◌, None, length, length-append, refl, sym, ap, subst, arith}
 use Rattle.vio_num.specs.Entry.{srp_entry}
-use Rattle.vio_num.specs.declared.entry.Entry.{Entry}
 use Rattle.crq_session.specs.Answered.{Sends as SendsEntry}
-use Rattle.crq_session.specs.EndState.{EndState, OnlyReserves, OnlySends}
 use Rattle.crq_session.specs.declared.answers.SendAnswer.{SendAnswer}
 use Rattle.crq_session.specs.declared.answers.SendAnswer.TheVariants as send
 use Rattle.srp_iu.specs.declared.unit.Iu.{Iu}
@@ -12,7 +9,7 @@ use Rattle.srp_iu.specs.declared.unit.Iu.TheVariants as units
 use Rattle.block_server.specs.Ends.{IsGrantable}
 use Rattle.vscsi_client.specs.Spans.{no_pages}
 use Rattle.vscsi_client.specs.State.{ClientState, IsLoginSlot, next_tag}
-use Rattle.vscsi_client.specs.Turned.{IsEntryOf, Puts, WritesLogin, login_due, sent_by, written_at}
+use Rattle.vscsi_client.specs.Turned.{IsEntryOf, Puts, WritesLogin, login_due, sent_by}
 use Rattle.vscsi_client.specs.Units.{login_request, slot_address}
 use Rattle.vscsi_client.specs.declared.TheConstants.{SLOTS}
 use Rattle.vscsi_client.specs.declared.row.Row.TheVariants as rows
@@ -23,7 +20,7 @@ use Rattle.vscsi_client.specs.declared.stage.Stage.TheVariants.{Idle, Sent, Writ
 use Rattle.vcpu_run.proofs.PlainData.{unit_data}
 use Rattle.vcpu_run.specs.PlainTalk.{Ask, AskedParts, Between, IsAsk, IsCalm, IsTalking, ServerStays, TalksPlainly, word_of}
 use Rattle.vcpu_run.proofs.PlainLogs.{IsFreeFor, SendsLogin, logs_in}
-use Rattle.vcpu_run.proofs.PlainPuts.{LeavesUnit, LeavesWindow, entry_put, unit_laid}
+use Rattle.vcpu_run.proofs.PlainPuts.{LeavesUnit, entry_put, unit_laid}
 use Rattle.vcpu_run.proofs.PlainRooms.{put_success}
 use Rattle.vcpu_run.proofs.PlainSays.{EntryPut, calm_asks}
 use Rattle.vcpu_run.proofs.PlainSlots.{keeps_same, unit_said}

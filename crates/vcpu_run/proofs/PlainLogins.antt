@@ -1,5 +1,5 @@
 -- How far a turn of a plain client's login came, against the replay of the client's lines.
-use Rattle.std.proofs.Common.{◌≡◌, ◌≢◌, ◌∙◌, ℕ, ◌+◌, ◌≤◌, true, false, true≢false, cond, List, [], ◌∷◌, Option, None, is_some, length, sym, ap, subst, arith}
+use Rattle.std.proofs.Common.{◌≡◌, ◌∙◌, ℕ, ◌+◌, ◌≤◌, true, false, true≢false, cond, List, [], ◌∷◌, Option, None, is_some, length, sym, ap, subst, arith}
 use Rattle.vio_num.specs.declared.entry.Entry.{Entry}
 use Rattle.crq_session.specs.declared.handshake.Handshake.{Handshake}
 use Rattle.crq_session.specs.declared.handshake.Handshake.TheVariants.{Up, Waiting}

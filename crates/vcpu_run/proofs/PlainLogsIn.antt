@@ -1,5 +1,5 @@
 -- A turn of a plain client's login goes on and ends as the replay of its lines.
-use Rattle.std.proofs.Common.{◌≡◌, ◌≢◌, ◌∙◌, ◌⊎◌, inl, inr, ℕ, ◌+◌, ◌≤◌, ◌++◌, ◌||◌, Bool, true, false, true≢false, List, [], ◌∷◌, Some, Result, Ok, Err, arith, length, refl, sym, ap, ap₂, subst}
+use Rattle.std.proofs.Common.{◌≡◌, ◌∙◌, ◌⊎◌, inl, inr, ℕ, ◌≤◌, ◌++◌, ◌||◌, Bool, true, false, true≢false, List, [], ◌∷◌, Some, Result, Ok, Err, arith, length, refl, sym, ap, ap₂, subst}
 use Rattle.std.specs.List.{list_any}
 use Rattle.vio_num.specs.declared.memory.NoMemory.{NoMemory}
 use Rattle.crq_session.specs.EndState.{EndState}

@@ -1,5 +1,5 @@
 -- A plain client that waits for its login takes an entry and looks at it: it keeps the answer to another request, or its login ends.
-use Rattle.std.proofs.Common.{◌≡◌, ◌≢◌, ◌∙◌, ◌⊎◌, inl, inr, ℕ, ◌≤◌, ◌==◌, ◌++◌, All, Bool, true, false, true≢false, cond, List, [], ◌∷◌, Option, Some, None, append_assoc, append-nil, length, min, refl, sym, ap, ap₂, subst, arith, IsSome}
+use Rattle.std.proofs.Common.{◌≡◌, ◌≢◌, ◌∙◌, ◌⊎◌, inl, inr, ℕ, ◌==◌, ◌++◌, All, true, false, true≢false, cond, List, [], ◌∷◌, Some, None, append_assoc, append-nil, length, refl, sym, ap, ap₂, subst, arith, IsSome}
 use Rattle.std.specs.Prelude.{⊤}
 use Rattle.std.proofs.lemmas.Bool.Decides.{nat_tests}
 use Rattle.std.proofs.lemmas.List.Elements.{All-head}
@@ -9,8 +9,7 @@ use Rattle.srp_iu.specs.declared.login.LoginRsp.{LoginRsp}
 use Rattle.srp_iu.specs.declared.unit.Iu.{Iu}
 use Rattle.srp_iu.specs.declared.unit.Iu.TheVariants as units
 use Rattle.tce_window.specs.PortState.{PortState}
-use Rattle.block_server.specs.Talk.{tag_asked, to_come}
-use Rattle.block_server.specs.declared.unit.Unit.{Unit}
+use Rattle.block_server.specs.Talk.{tag_asked}
 use Rattle.vscsi_client.specs.Login.{is_kept, login_slot}
 use Rattle.vscsi_client.specs.Sending.{task_of}
 use Rattle.vscsi_client.specs.State.{ClientState}
@@ -18,7 +17,7 @@ use Rattle.vscsi_client.specs.Taking.{slot_of}
 use Rattle.vscsi_client.specs.declared.outgoing.Outgoing.{Outgoing}
 use Rattle.vscsi_client.specs.declared.stage.Stage.{Stage}
 use Rattle.vscsi_client.specs.declared.stage.Stage.TheVariants.{Idle, Sent, Written}
-use Rattle.vcpu_run.specs.PlainTalk.{Ask, AskedParts, Between, HasAnswer, HaveAnswers, IsAnswerTo, IsAsk, IsCalm, IsOwnWindow, IsTalking, ServerStays, TagsRise, all_asked, has_login, is_counted, is_login, is_logout, is_sent, login_name, name_of, names_of}
+use Rattle.vcpu_run.specs.PlainTalk.{Ask, AskedParts, Between, IsAnswerTo, IsAsk, IsTalking, TagsRise, all_asked, has_login, is_login, is_sent, login_name, name_of, names_of}
 use Rattle.vcpu_run.proofs.PlainAsks.{all_parts, answer_to}
 use Rattle.vcpu_run.proofs.PlainEnds.{IsAmong, IsLast, has_login_mid, last_is}
 use Rattle.vcpu_run.proofs.PlainFinds.{TellsLogin, TellsOther}

@@ -1,15 +1,13 @@
 -- A plain client that has registered its queue hears that its server unit has heard of that: both have then heard of one another, and nothing
 -- is asked.
-use Rattle.std.proofs.Common.{◌≡◌, ◌∙◌, ◌⊎◌, inl, inr, ℕ, ◌≤◌, ◌++◌, ◌&&◌, not, nat_le, All, Bool, true, false, true≢false, List, [], ◌∷◌, Option, Some, None, is_some, length, min, refl, sym, ap, ap₂, subst, arith}
+use Rattle.std.proofs.Common.{◌≡◌, ◌∙◌, inl, inr, ℕ, ◌≤◌, ◌++◌, ◌&&◌, nat_le, true, false, true≢false, List, [], ◌∷◌, Some, None, is_some, length, refl, sym, ap, ap₂, subst, arith}
 use Rattle.std.proofs.lemmas.Bool.Decides.{nat_tests}
 use Rattle.std.proofs.lemmas.List.Elements.{All-nil}
 use Rattle.vio_num.specs.Entry.{initialization_complete, is_srp_entry}
 use Rattle.vio_num.specs.declared.entry.Entry.{Entry}
-use Rattle.crq_session.specs.EndState.{EndState}
 use Rattle.crq_session.specs.Handshake.{state_after, step_after}
 use Rattle.crq_session.specs.declared.handshake.Handshake.{Handshake}
 use Rattle.crq_session.specs.declared.handshake.Handshake.TheVariants.{Up}
-use Rattle.srp_iu.specs.declared.unit.Iu.{Iu}
 use Rattle.tce_window.specs.PortState.{PortState}
 use Rattle.block_server.specs.Talk.{MayAsk, talk_of, to_come}
 use Rattle.block_server.specs.Talk.Word.{begins}
@@ -26,7 +24,7 @@ use Rattle.vscsi_client.specs.declared.outgoing.Outgoing.{Outgoing}
 use Rattle.vscsi_client.specs.declared.stage.Due.{Due}
 use Rattle.vscsi_client.specs.declared.stage.Stage.TheVariants.{Idle}
 use Rattle.vscsi_client.specs.declared.stage.Stage.{Stage}
-use Rattle.vcpu_run.specs.PlainTalk.{ArePending, Ask, Between, DataLies, HaveAnswers, HearsOfClient, IsAsk, IsBeginning, IsCalm, IsTalking, IsAnswerBy, ServerStays, is_logout, is_sent, login_name, StartsAt}
+use Rattle.vcpu_run.specs.PlainTalk.{ArePending, Ask, Between, DataLies, HaveAnswers, HearsOfClient, IsAsk, IsBeginning, IsTalking, IsAnswerBy, ServerStays, is_logout, is_sent, login_name, StartsAt}
 use Rattle.vcpu_run.proofs.PlainLooked.{some_same, takes_on}
 use Rattle.vcpu_run.proofs.PlainTaking.{poll_come}
 

@@ -1,13 +1,13 @@
 -- Between two entries that a client takes in one step of a line: the server unit's end, as it sees there what the client took so far.
-use Rattle.std.proofs.Common.{◌≡◌, ◌∙◌, ℕ, ◌+◌, ◌++◌, List, [], ◌∷◌, arith, length, length-append, refl, sym, ap, ap₂, subst}
+use Rattle.std.proofs.Common.{◌≡◌, ◌∙◌, ℕ, ◌+◌, List, arith, length, length-append, refl, sym, ap, ap₂}
 use Rattle.crq_ring.specs.Sessions.{of_session}
 use Rattle.crq_ring.specs.declared.rows.PipeRow.{PipeRow}
 use Rattle.crq_ring.proofs.SessionLaws.{of_session-append}
 use Rattle.crq_session.specs.Answered.{received_now, taken_now}
-use Rattle.crq_session.specs.EndState.{EndPlace, EndState, OnlyTakes}
+use Rattle.crq_session.specs.EndState.{EndPlace, EndState}
 use Rattle.block_server.specs.declared.unit.Unit.{Unit}
 use Rattle.vcpu_run.specs.PlainSteps.{Own, TakesEntries, beside}
-use Rattle.vcpu_run.specs.PlainTalk.{AreEnds, Between, IsOwnWindow, ServerStays, TookNoMore}
+use Rattle.vcpu_run.specs.PlainTalk.{AreEnds, ServerStays, TookNoMore}
 
 -- the server unit's end, as it sees what this end took
 abbrev pub seeing : (server own : EndState) → EndState

@@ -1,5 +1,5 @@
 -- In the middle of a turn in which a plain client waits for its login: what it takes and looks at, one entry after the other.
-use Rattle.std.proofs.Common.{◌≡◌, ◌∙◌, ◌⊎◌, inl, inr, ℕ, ◌+◌, ◌≤◌, ◌++◌, true, false, true≢false, List, [], ◌∷◌, arith, drop, length, length-append, length-drop, refl, sym, ap, ap₂, subst}
+use Rattle.std.proofs.Common.{◌≡◌, ◌∙◌, ◌⊎◌, inl, inr, ℕ, ◌≤◌, ◌++◌, true, false, true≢false, List, [], ◌∷◌, arith, drop, length, length-append, length-drop, refl, sym, ap, ap₂, subst}
 use Rattle.std.specs.Prelude.{⊤}
 use Rattle.vio_num.specs.declared.entry.Entry.{Entry}
 use Rattle.crq_session.specs.Answered.{received_now, taken_now, FindsNone}

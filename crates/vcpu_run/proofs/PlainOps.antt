@@ -1,22 +1,19 @@
 -- The data of a command that a plain client sent: its table, if it has one, was written and stands, and names pieces in the data's pages.
-use Rattle.std.specs.Prelude.{MatchOption, MatchBool}
-use Rattle.std.proofs.Common.{◌≡◌, ◌≢◌, ◌∙◌, ℕ, zero, suc, ◌+◌, ◌-◌, ◌*◌, ◌/◌, ◌%◌, ◌^◌, ◌<◌, ◌≤◌, ◌==◌, ◌&&◌, ◌++◌, min, nat_le, All, Bool, true, false, cond, List, [], ◌∷◌, Option, Some, None, IsSome, drop, get_or, length, length-drop, length-take, refl, slice_range, sym, take, ap, ap₂, subst, arith}
+use Rattle.std.proofs.Common.{◌≡◌, ◌∙◌, ℕ, ◌+◌, ◌-◌, ◌*◌, ◌/◌, ◌%◌, ◌<◌, ◌≤◌, min, nat_le, true, false, cond, List, [], ◌∷◌, Option, Some, None, IsSome, drop, get_or, length, length-drop, length-take, refl, slice_range, sym, ap, subst, arith}
 use Rattle.std.proofs.lemmas.Bool.Decides.{nat_tests}
 use Rattle.std.proofs.lemmas.List.{get_or-drop, get_or-take}
-use Rattle.std.proofs.lemmas.List.Elements.{All-cons, All-nil, All-weaker}
 use Rattle.page_slots.specs.Stroke.{StrokeValue}
 use Rattle.page_slots.specs.declared.stroke.StrokeName.{StrokeName}
-use Rattle.tce_window.specs.PortState.{OnlyWrites, PortState, Writes}
-use Rattle.tce_window.specs.Region.{byte_in, region_byte, stroke_on, touches, written}
+use Rattle.tce_window.specs.PortState.{PortState, Writes}
+use Rattle.tce_window.specs.Region.{byte_in, region_byte, stroke_on, touches}
 use Rattle.tce_window.specs.Strokes.{with_strokes}
 use Rattle.vscsi_client.specs.Ports.{LaysAll}
-use Rattle.vscsi_client.specs.Sending.{is_tabled, table_of, table_writes, table_writes_at}
-use Rattle.vscsi_client.specs.Spans.{in_range, meets, op_in_range, data_in_range, span_of, span_of_table, table_in_range, table_len, table_span}
+use Rattle.vscsi_client.specs.Sending.{table_writes, table_writes_at}
+use Rattle.vscsi_client.specs.Spans.{meets, op_in_range, data_in_range, span_of, span_of_table, table_in_range, table_len}
 use Rattle.vscsi_client.specs.State.{ClientState}
 use Rattle.vscsi_client.specs.Units.{table_bytes}
 use Rattle.vscsi_client.specs.declared.TheConstants.{DATA_START}
 use Rattle.vscsi_client.specs.declared.op.Op.{Op}
-use Rattle.vscsi_client.specs.declared.outgoing.Span.{Span}
 use Rattle.vscsi_client.specs.declared.table.Table.{Table}
 use Rattle.vcpu_run.specs.PlainTalk.{IsOwnWindow, KeepsTables}
 use Rattle.vcpu_run.proofs.PlainData.{data_kept, span_data}

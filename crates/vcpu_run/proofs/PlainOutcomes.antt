@@ -1,5 +1,5 @@
 -- A turn of a plain client's login that ends by the login's answer: the line's record is that of the replay.
-use Rattle.std.proofs.Common.{◌≡◌, ◌≢◌, ◌∙◌, ◌⊎◌, inl, inr, ℕ, ◌+◌, ◌≤◌, Bool, true, false, true≢false, List, [], Option, Some, None, arith, is_some, length, sym, ap, subst}
+use Rattle.std.proofs.Common.{◌≡◌, ◌∙◌, ◌⊎◌, inl, inr, ℕ, ◌+◌, ◌≤◌, Bool, true, false, true≢false, List, [], Option, Some, None, arith, is_some, length, sym, ap, subst}
 use Rattle.std.specs.Prelude.{MatchOption}
 use Rattle.vio_num.specs.declared.entry.Entry.{Entry}
 use Rattle.crq_session.specs.EndState.{EndState}

@@ -1,5 +1,5 @@
 -- What a page shows: what its strokes left from a place on, whatever was laid elsewhere on it.
-use Rattle.std.proofs.Common.{◌≡◌, ◌∙◌, ◌⊎◌, inl, inr, ℕ, ◌+◌, ◌-◌, ◌/◌, ◌%◌, ◌≤◌, ◌++◌, All, List, [], ◌∷◌, Option, Some, None, IsSome, append_assoc, drop, fold, length, length-append, length-drop, length-take, length-take-le, refl, sym, take, take-append-drop, ap, arith}
+use Rattle.std.proofs.Common.{◌≡◌, ◌∙◌, ◌⊎◌, inl, inr, ℕ, ◌+◌, ◌-◌, ◌≤◌, ◌++◌, All, List, [], ◌∷◌, Option, Some, None, IsSome, append_assoc, drop, fold, length, length-append, length-drop, length-take, length-take-le, refl, sym, take, take-append-drop, ap, arith}
 use Rattle.std.proofs.lemmas.List.{drop-append-le, drop-drop, drop_at, take-append-le, take_at}
 use Rattle.std.proofs.lemmas.List.Elements.{All-head, All-tail}
 use Rattle.page_slots.specs.Page.{left_by, overwritten, replaced, zeros}

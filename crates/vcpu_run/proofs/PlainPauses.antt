@@ -1,5 +1,5 @@
 -- A turn of a plain client's login that ends before the login's answer is there: the server unit has something to do.
-use Rattle.std.proofs.Common.{◌≡◌, ◌≢◌, ◌∙◌, ◌⊎◌, inl, inr, ℕ, ◌+◌, ◌<◌, ◌≤◌, ◌++◌, ◌&&◌, true, false, true≢false, not, All, List, [], ◌∷◌, Option, Some, None, IsSome, arith, length, refl, sym, ap, subst}
+use Rattle.std.proofs.Common.{◌≡◌, ◌∙◌, ◌⊎◌, inl, inr, ℕ, ◌+◌, ◌≤◌, ◌++◌, ◌&&◌, true, false, true≢false, not, All, List, [], ◌∷◌, Option, Some, None, IsSome, arith, length, refl, sym, ap, subst}
 use Rattle.std.specs.List.{list_any}
 use Rattle.std.proofs.lemmas.List.Elements.{All-cons, All-nil}
 use Rattle.vio_num.specs.Entry.{initialization_complete}

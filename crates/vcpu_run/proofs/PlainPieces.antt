@@ -1,5 +1,5 @@
 -- The pieces of the data of a plain client's command: where they lie, and what the bytes of their table say.
-use Rattle.std.proofs.Common.{◌≡◌, ◌∙◌, ℕ, zero, suc, ◌+◌, ◌-◌, ◌*◌, ◌/◌, ◌^◌, ◌<◌, ◌≤◌, ◌==◌, ◌++◌, All, Bool, true, false, cond, List, [], ◌∷◌, append-nil, append_assoc, drop, length, length-append, refl, sym, ap, subst, arith}
+use Rattle.std.proofs.Common.{◌≡◌, ◌∙◌, ℕ, zero, suc, ◌+◌, ◌-◌, ◌*◌, ◌/◌, ◌^◌, ◌<◌, ◌≤◌, ◌==◌, ◌++◌, All, Bool, true, false, cond, List, [], ◌∷◌, append-nil, append_assoc, drop, length, length-append, refl, sym, ap, arith}
 use Rattle.std.proofs.Math.Nat.{mul-div-le, mul-le-mul_right, mul-suc}
 use Rattle.std.proofs.lemmas.List.{drop_at}
 use Rattle.std.proofs.lemmas.List.Elements.{All-nil, All-push}

@@ -103,10 +103,3 @@ data_range op some = by op.pieces refl
     by : (n : ℕ) → op.pieces ≡ n → AreOneRange op.at (pieces op n)
     by zero e = absurd (omega (arith, some, e))
     by (suc n) e = λ j less. let last = lie_last op n e in last.places j (omega (arith, less, last.sum))
-
-pub data_lie : (op : Op) → 1 ≤ op.pieces → (j : ℕ) → j < op.len → address_of (pieces op op.pieces) j ≡ Some (op.at + j)
-data_lie op some j less = by op.pieces refl
-  where
-    by : (n : ℕ) → op.pieces ≡ n → address_of (pieces op n) j ≡ Some (op.at + j)
-    by zero e = absurd (omega (arith, some, e))
-    by (suc n) e = (lie_last op n e).places j less

@@ -3,16 +3,15 @@
 use Rattle.std.proofs.Common.{◌≡◌, ◌≢◌, ◌∙◌, ℕ, ◌+◌, ◌*◌, ◌≤◌, ◌++◌, ◌&&◌, nat_le, Bool, true, false, true≢false, cond, List, [], ◌∷◌, Option, Some, None, length, refl, sym, ap, subst, arith}
 use Rattle.std.specs.Prelude.{⊤}
 use Rattle.std.proofs.lemmas.Bool.Decides.{nat_tests}
-use Rattle.vio_num.specs.Entry.{srp_entry}
 use Rattle.vio_num.specs.declared.entry.Entry.{Entry}
 use Rattle.crq_ring.specs.declared.rows.PipeRow.{PipeRow}
 use Rattle.crq_session.specs.Answered.{Puts as PutsEntry}
 use Rattle.crq_session.specs.EndState.{EndState, OnlySends}
 use Rattle.tce_window.specs.PortState.{OnlyWrites, PortState, Writes}
 use Rattle.block_server.specs.Talk.{session_rows, to_come}
-use Rattle.vscsi_client.specs.Ports.{LaysAll, Ports, UnitPut, unit_write}
+use Rattle.vscsi_client.specs.Ports.{LaysAll}
 use Rattle.vscsi_client.specs.Sending.{is_tabled, table_of, table_writes, table_writes_at}
-use Rattle.vscsi_client.specs.Spans.{data_in_range, in_range, op_in_range, table_in_range, table_len}
+use Rattle.vscsi_client.specs.Spans.{data_in_range, op_in_range, table_in_range, table_len}
 use Rattle.vscsi_client.specs.State.{ClientState}
 use Rattle.vscsi_client.specs.Units.{slot_address, table_bytes}
 use Rattle.vscsi_client.specs.declared.TheConstants.{DATA_START, SLOTS}
@@ -20,7 +19,6 @@ use Rattle.vscsi_client.specs.declared.op.Op.{Op}
 use Rattle.vscsi_client.specs.declared.table.Table.{Table}
 use Rattle.vcpu_run.specs.PlainTalk.{AreEnds, Between, IsOwnWindow, KeepsSlots, ServerStays, shown}
 use Rattle.vcpu_run.proofs.PlainSays.{EntryPut}
-use Rattle.vcpu_run.proofs.PlainSent.{StaysElse}
 use Rattle.vcpu_run.proofs.PlainSlots.{behind_apart, keeps_on, keeps_same, slot_on, slots_apart, write_keeps}
 use Rattle.vcpu_run.proofs.PlainStays.{laid_own, laid_shown}
 use Rattle.vcpu_run.proofs.PlainTurns.{Receives, come_more, come_same}

@@ -1,5 +1,5 @@
 -- A plain client's server unit is ready for its turn: it hears all that is to come.
-use Rattle.std.proofs.Common.{◌≡◌, ◌≢◌, ◌∙◌, ◌⊎◌, inl, inr, ℕ, suc, ◌+◌, ◌<◌, ◌≤◌, ◌++◌, All, Bool, true, false, cond, List, [], ◌∷◌, Option, Some, None, drop, length, length-append, length-drop, map, refl, sym, ap, subst, arith}
+use Rattle.std.proofs.Common.{◌≡◌, ◌∙◌, inl, inr, ℕ, suc, ◌+◌, ◌≤◌, ◌++◌, All, Bool, true, false, cond, List, [], ◌∷◌, length, length-append, length-drop, map, refl, sym, ap, subst, arith}
 use Rattle.std.specs.Prelude.{⊤}
 use Rattle.std.proofs.lemmas.List.{length-map}
 use Rattle.std.proofs.lemmas.List.Elements.{All-append, All-cons, All-head, All-nil, All-tail, All-weaker}
@@ -8,12 +8,10 @@ use Rattle.crq_ring.specs.Sessions.{of_session}
 use Rattle.crq_ring.specs.declared.rows.PipeRow.{PipeRow}
 use Rattle.crq_session.specs.Answered.{partner_took, received_now, sent_now, taken_now}
 use Rattle.crq_session.specs.EndState.{EndState}
-use Rattle.crq_session.specs.declared.handshake.Handshake.{Handshake}
-use Rattle.crq_session.specs.declared.handshake.Handshake.TheVariants.{Down, Up}
 use Rattle.srp_iu.specs.declared.unit.Iu.{Iu}
 use Rattle.tce_window.specs.PortState.{PortState}
 use Rattle.tce_window.specs.declared.answers.Right.TheVariants.{Write}
-use Rattle.block_server.specs.Talk.{ComeInOrder, FitOneTurn, HasRoomFor, HearsAll, HearsOne, IsListening, IsTurnReady, MayAsk, MayWriteAnswer, Talk, Word, reach, replies, talk_of, to_come}
+use Rattle.block_server.specs.Talk.{ComeInOrder, HasRoomFor, HearsAll, HearsOne, IsTurnReady, MayAsk, MayWriteAnswer, Talk, Word, reach, replies, talk_of, to_come}
 use Rattle.block_server.specs.Talk.Word.{asks, begins, gone}
 use Rattle.block_server.specs.declared.request.Request.{Request}
 use Rattle.vscsi_client.specs.State.{ClientState}
@@ -22,7 +20,7 @@ use Rattle.vscsi_client.specs.declared.TheConstants.{SLOTS}
 use Rattle.vscsi_client.specs.declared.outgoing.Outgoing.{Outgoing}
 use Rattle.vscsi_client.specs.declared.stage.Stage.{Stage}
 use Rattle.vscsi_client.specs.declared.stage.Stage.TheVariants.{Idle, Sent, Written}
-use Rattle.vcpu_run.specs.PlainTalk.{AreEnds, AreInOrder, ArePending, AreStale, Ask, AskedParts, Between, HasRights, HaveAnswers, HearsOfClient, HearsOfGone, InPhase, IsAsk, IsAway, IsBeginning, IsCalm, IsOwnWindow, IsTalking, TalksPlainly, all_asked, awaited, is_logout, login_name, name_of, names_of, word_of, TookNoMore}
+use Rattle.vcpu_run.specs.PlainTalk.{AreEnds, AreInOrder, ArePending, Ask, AskedParts, Between, HasRights, HaveAnswers, HearsOfClient, HearsOfGone, InPhase, IsAsk, IsCalm, IsOwnWindow, IsTalking, TalksPlainly, all_asked, awaited, is_logout, login_name, name_of, names_of, word_of, TookNoMore}
 use Rattle.vcpu_run.proofs.PlainSlots.{words_said}
 use Rattle.vcpu_run.proofs.PlainStands.{slot_usable}
 

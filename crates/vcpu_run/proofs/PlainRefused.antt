@@ -28,9 +28,6 @@ pub record KnowsCredits (grant : ℕ) (now : Replay) (granted : Option ℕ) (out
   pub are : AreReplayedAs outgoing now.outstanding
   pub within : length now.outstanding ≤ grant
 
-none_some : {X : Type 0} {x : X} → None ≡ Some x → ⊥
-none_some e = cc (e)
-
 some_none : {X : Type 0} {x : X} → Some x ≡ None → ⊥
 some_none e = cc (e)
 

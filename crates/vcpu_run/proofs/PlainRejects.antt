@@ -1,5 +1,5 @@
 -- A plain client whose login was rejected: what it asked before stays as it was, and no login is under way.
-use Rattle.std.proofs.Common.{◌≡◌, ◌≢◌, ◌∙◌, ◌⊎◌, inl, inr, ℕ, ◌+◌, ◌≤◌, ◌++◌, not, nat_le, All, Bool, true, false, true≢false, cond, List, [], ◌∷◌, Option, Some, None, append-nil, append_assoc, is_some, length, map, min, refl, sym, ap, ap₂, subst, arith}
+use Rattle.std.proofs.Common.{◌≡◌, ◌∙◌, ◌⊎◌, inl, ℕ, ◌≤◌, ◌++◌, not, nat_le, All, true, false, true≢false, List, [], ◌∷◌, Option, Some, None, append-nil, is_some, length, min, refl, sym, ap, ap₂, subst, arith}
 use Rattle.std.specs.Prelude.{⊤}
 use Rattle.std.proofs.lemmas.List.Elements.{All-nil}
 use Rattle.vio_num.specs.declared.entry.Entry.{Entry}
@@ -9,11 +9,10 @@ use Rattle.srp_iu.specs.declared.unit.Iu.TheVariants as units
 use Rattle.block_server.specs.Talk.{MayAsk, talk_of, to_come}
 use Rattle.block_server.specs.declared.unit.Unit.{Unit}
 use Rattle.vscsi_client.specs.Sending.{task_of}
-use Rattle.vscsi_client.specs.State.{ClientState}
 use Rattle.vscsi_client.specs.declared.outgoing.Outgoing.{Outgoing}
 use Rattle.vscsi_client.specs.declared.stage.Stage.{Stage}
 use Rattle.vscsi_client.specs.declared.stage.Stage.TheVariants.{Idle, Sent, Written}
-use Rattle.vcpu_run.specs.PlainTalk.{AreApart, CountsAsked, AreInOrder, ArePending, Ask, AskedParts, Between, DataLies, HaveAnswers, IsAsk, IsTalking, KeepsSlots, IsAnswerBy, TagsRise, all_asked, awaited, grants_one, has_login, is_granted, is_login, is_logout, is_sent, login_name, name_of, names_of, StartsAt}
+use Rattle.vcpu_run.specs.PlainTalk.{AreApart, CountsAsked, AreInOrder, ArePending, Ask, AskedParts, Between, DataLies, HaveAnswers, IsAsk, IsTalking, KeepsSlots, IsAnswerBy, TagsRise, all_asked, grants_one, has_login, is_granted, is_login, is_logout, is_sent, login_name, name_of, names_of, StartsAt}
 use Rattle.vcpu_run.proofs.PlainAsks.{all_parts, names_push}
 use Rattle.vcpu_run.proofs.PlainEnds.{IsAmong, IsLast, apart_front_all, has_login_mid, last_is, order_front, rise_front}
 use Rattle.vcpu_run.proofs.PlainLists.{answers_plain, granted_push, login_no_logout}

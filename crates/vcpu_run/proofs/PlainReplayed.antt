@@ -1,20 +1,13 @@
 -- The replay over the lines of a plain client that ended: one more, what the next is to find, and the tables that no line writes over.
-use Rattle.std.proofs.Common.{◌≡◌, ◌∙◌, ◌⊎◌, inl, inr, ℕ, zero, suc, ◌+◌, ◌≤◌, ◌==◌, ◌||◌, ◌++◌, cond, Bool, true, false, true≢false, All, List, [], ◌∷◌, Option, Some, None, IfSome, drop, is_some, length, refl, slice_get, sym, ap, ap₂, subst, arith}
-use Rattle.std.proofs.lemmas.List.Elements.{All-cons, All-head, All-nil, All-push, All-tail}
-use Rattle.std.specs.List.{filter, flat_map, list_any}
-use Rattle.std.specs.Prelude.{⊤}
-use Rattle.boot_text.specs.declared.plan.Line.{Line}
+use Rattle.std.proofs.Common.{◌≡◌, ◌∙◌, inl, inr, ℕ, ◌++◌, List, [], ◌∷◌, IfSome, is_some, refl, sym, ap, subst, arith}
 use Rattle.boot_text.specs.declared.verb.Verb.{Verb}
 use Rattle.boot_text.specs.declared.verb.Verb.TheVariants as verbs
-use Rattle.vio_trace.specs.declared.outcome.Outcome.{Outcome}
-use Rattle.vio_trace.specs.declared.rows.LogRow.{LogRow}
 use Rattle.vscsi_client.specs.State.{ClientState, next_tag}
-use Rattle.vcpu_run.specs.Credited.{Ended, ended_by}
-use Rattle.vcpu_run.specs.PlainClients.{IsPlainClient, lines_of, tables_in, tables_of, written_by}
+use Rattle.vcpu_run.specs.Credited.{Ended}
 use Rattle.vcpu_run.specs.PlainScripts.{after_ended}
-use Rattle.vcpu_run.specs.PlainSteps.{AgreeOnCredits, AreReplayedAs, AwaitsUnit, FollowsReplay, HasCome, HasFreed, HasSentLogin, IsLoggingIn, IsResetting, KeptApart}
+use Rattle.vcpu_run.specs.PlainSteps.{AgreeOnCredits, AreReplayedAs, FollowsReplay, HasCome, IsLoggingIn, IsResetting, KeptApart}
 use Rattle.vcpu_run.specs.PlainTalk.{Between, is_sent}
-use Rattle.vcpu_run.specs.Replay.{Asked, IsReplayed, Range, Replay, after_line, any_share, before_lines, ends_as, forgotten, left_unless, logout_refusal, ranges_of, refusal, share_page, with_asked}
+use Rattle.vcpu_run.specs.Replay.{IsReplayed, Replay, after_line, ends_as, forgotten}
 use Rattle.vcpu_run.specs.declared.script.Progress.{Progress}
 use Rattle.vcpu_run.specs.declared.script.Progress.TheVariants as progress
 use Rattle.vcpu_run.proofs.PlainAsking.{follows_still}

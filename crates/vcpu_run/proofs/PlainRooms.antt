@@ -1,5 +1,5 @@
 -- Where all that came to a server unit was taken, a plain client's entry finds its partner's queue registered, and a slot free.
-use Rattle.std.proofs.Common.{◌≡◌, ◌∙◌, ℕ, ◌+◌, ◌≤◌, ◌++◌, Bool, true, false, true≢false, List, [], ◌∷◌, drop, length, length-append, length-drop, refl, sym, ap, ap₂, arith}
+use Rattle.std.proofs.Common.{◌≡◌, ◌∙◌, ℕ, true, false, true≢false, List, [], length, length-drop, refl, sym, ap, ap₂, arith}
 use Rattle.vio_num.specs.declared.entry.Entry.{Entry}
 use Rattle.crq_ring.specs.Sessions.{of_session}
 use Rattle.crq_ring.specs.declared.rows.PipeRow.{PipeRow}
@@ -9,7 +9,7 @@ use Rattle.crq_session.specs.declared.answers.SendAnswer.{SendAnswer}
 use Rattle.crq_session.specs.declared.answers.SendAnswer.TheVariants as send
 use Rattle.block_server.specs.Talk.{to_come}
 use Rattle.vscsi_client.specs.Turned.{SentAs}
-use Rattle.vcpu_run.specs.PlainTalk.{AreEnds, Between, IsCalm, ServerStays, TookNoMore}
+use Rattle.vcpu_run.specs.PlainTalk.{Between, IsCalm, ServerStays, TookNoMore}
 use Rattle.vcpu_run.proofs.PlainSays.{none_said}
 
 -- all that came was taken

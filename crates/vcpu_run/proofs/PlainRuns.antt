@@ -1,8 +1,7 @@
 -- Plain clients in a run: what the turns of the server units, those of the scripts, and the end of a line that waits leave of them.
-use Rattle.std.proofs.Common.{◌≡◌, ◌≢◌, ◌∙◌, ◌⊎◌, inl, inr, ℕ, ◌+◌, ◌<◌, ◌≤◌, Bool, true, false, true≢false, List, [], ◌∷◌, Option, Some, None, IsSomeAnd, length, refl, slice_get, slice_set, sym, ap, subst, arith}
+use Rattle.std.proofs.Common.{◌≡◌, ◌≢◌, ◌∙◌, ◌⊎◌, inl, inr, ℕ, ◌+◌, ◌<◌, ◌≤◌, true, false, true≢false, List, [], ◌∷◌, Option, Some, None, IsSomeAnd, length, refl, slice_get, slice_set, sym, ap, subst, arith}
 use Rattle.std.proofs.lemmas.List.Elements.{All-head}
 use Rattle.std.proofs.lemmas.Option.{slice_get_within}
-use Rattle.boot_text.specs.declared.plan.Line.{Line}
 use Rattle.crq_session.specs.Answered.{taken_now}
 use Rattle.crq_session.specs.PlainState.{end_of}
 use Rattle.tce_window.specs.PlainPort.{known_of}
@@ -18,9 +17,9 @@ use Rattle.vcpu_run.specs.Machines.{AreScripts, server_id}
 use Rattle.vcpu_run.specs.PlainBorne.{rows_by}
 use Rattle.vcpu_run.specs.PlainClients.{IsPlainClient}
 use Rattle.vcpu_run.specs.PlainPairs.{IdlesPlainlyAt, IsIdleUnit, IsPlainAt, IsPlainPair, IsReadyAt, IsReadyPair, LeavesAway, ServerBooks, ServesPlainlyAt, between_of}
-use Rattle.vcpu_run.specs.PlainRuns.{ArePlain, ArePlainTo, ArePlainlyQuietTo, AtPlainSeats, AwaitsNoneAt, ComesBehind, NoneAwait, RestsInRound, StandsInRound}
+use Rattle.vcpu_run.specs.PlainRuns.{ArePlain, ArePlainTo, ArePlainlyQuietTo, AwaitsNoneAt, ComesBehind, NoneAwait, RestsInRound, StandsInRound}
 use Rattle.vcpu_run.specs.PlainRows.{TagsKept, tags_by}
-use Rattle.vcpu_run.specs.PlainScripts.{EndsPlainly, IsPlainSeat, NoneAwaits, PairIs, PairTalks, QuietsPlainly, StandsPlainly, StandsPlainlyAt, TurnedPlainly, TurnsPlainly, rows_in, told_in}
+use Rattle.vcpu_run.specs.PlainScripts.{EndsPlainly, IsPlainSeat, NoneAwaits, PairIs, PairTalks, QuietsPlainly, StandsPlainly, TurnedPlainly, TurnsPlainly, rows_in, told_in}
 use Rattle.vcpu_run.specs.PlainSteps.{AsksAnew, IsNewWord, WasFailed}
 use Rattle.vcpu_run.specs.PlainTalk.{TalksPlainly}
 use Rattle.vcpu_run.specs.Scripts.{OnlyRuns, are_servers}
@@ -40,7 +39,7 @@ use Rattle.vcpu_run.proofs.PlainNotesKept.{answers_turned, noted_turned, sized_t
 use Rattle.vcpu_run.proofs.PlainSeated.{owes_there, pair_is}
 use Rattle.vcpu_run.proofs.PlainTags.{tags_asked, tags_none, tags_on}
 use Rattle.vcpu_run.proofs.PlainTurning.{clients_stand, was_still}
-use Rattle.vcpu_run.proofs.RoundsTold.{SameSeats, others_same}
+use Rattle.vcpu_run.proofs.RoundsTold.{others_same}
 use Rattle.vcpu_run.specs.Credited.{Ended}
 
 -- ---- scripts

@@ -1,5 +1,5 @@
 -- Behind a call by which a plain client sent something, what is so between it and its server unit is so, and what it asked is to come.
-use Rattle.std.proofs.Common.{◌≡◌, ◌∙◌, ◌⊎◌, inl, inr, ℕ, ◌≤◌, ◌++◌, true, false, true≢false, List, [], ◌∷◌, Option, Some, None, refl, sym, ap, subst}
+use Rattle.std.proofs.Common.{◌≡◌, ◌∙◌, inl, inr, ℕ, ◌≤◌, ◌++◌, true, true≢false, List, [], ◌∷◌, Some, None, refl, sym, ap, subst}
 use Rattle.vio_num.specs.declared.entry.Entry.{Entry}
 use Rattle.tce_window.specs.PortState.{PortState}
 use Rattle.block_server.specs.Talk.{Word, to_come}

@@ -6,7 +6,6 @@ use Rattle.vio_num.specs.declared.hypervisor.Moved.TheVariants.{Quiet}
 use Rattle.boot_text.specs.declared.plan.Line.{Line}
 use Rattle.boot_text.specs.declared.verb.Verb.{Verb}
 use Rattle.boot_text.specs.declared.verb.Verb.TheVariants as verbs
-use Rattle.vio_trace.specs.declared.outcome.Outcome.{Outcome}
 use Rattle.vio_trace.specs.declared.rows.LogRow.{LogRow}
 use Rattle.crq_session.specs.PlainState.{side_of}
 use Rattle.unit_region.specs.declared.step.Step.{Step}
@@ -16,9 +15,9 @@ use Rattle.block_server.specs.declared.unit.Unit.{Unit}
 use Rattle.vcpu_run.specs.Credited.{Ended, ended_by, grants}
 use Rattle.vcpu_run.specs.NotedOn.{AllKeepNoted}
 use Rattle.vcpu_run.specs.Pairs.{AreDriven}
-use Rattle.vcpu_run.specs.PlainClients.{IsPlainClient, granted_in, keeps_own}
+use Rattle.vcpu_run.specs.PlainClients.{granted_in, keeps_own}
 use Rattle.vcpu_run.specs.PlainPairs.{between_of}
-use Rattle.vcpu_run.specs.PlainScripts.{AllRestPlainly, AllTalkOn, IsPlainSeat, LinePlainly, NoneAwaits, OfUnit, PairAsks, PairIs, PairKeepsRights, PairNotes, PairSteppedAs, PairSteppedOn, PairTalks, QuietsPlainly, StandsAt, StandsPlainly, StandsPlainlyAt, TurnedPlainly, TurnsPlainly, after_ended, answers_in, awaits, owes_at, rows_in, told_in}
+use Rattle.vcpu_run.specs.PlainScripts.{IsPlainSeat, LinePlainly, OfUnit, PairAsks, PairIs, PairKeepsRights, PairNotes, PairSteppedOn, PairTalks, QuietsPlainly, StandsAt, StandsPlainly, StandsPlainlyAt, TurnedPlainly, TurnsPlainly, after_ended, answers_in, awaits, owes_at, rows_in, told_in}
 use Rattle.vcpu_run.specs.PlainSteps.{AsksAnew, FollowsReplay, HasCome, RestsAs, granted_by}
 use Rattle.vcpu_run.specs.PlainTalk.{Between, TalksPlainly}
 use Rattle.vcpu_run.specs.PortWords.{HasNoCall}
@@ -36,7 +35,7 @@ use Rattle.vcpu_run.specs.declared.unit_seat.Seat.{Seat}
 use Rattle.vcpu_run.specs.declared.unit_seat.Seat.TheVariants as places
 use Rattle.vcpu_run.proofs.Crediting.{ended_more, here_or}
 use Rattle.vcpu_run.proofs.DataNoted.{keep_told}
-use Rattle.vcpu_run.proofs.Driving.{client_is, some_is}
+use Rattle.vcpu_run.proofs.Driving.{some_is}
 use Rattle.vcpu_run.proofs.Listed.{held, held_is, is_held}
 use Rattle.vcpu_run.proofs.PlainAsking.{none_anew}
 use Rattle.vcpu_run.proofs.PlainNotes.{notes_same}

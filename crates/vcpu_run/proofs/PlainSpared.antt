@@ -1,13 +1,13 @@
 -- No line of a plain client writes on a page of a table of its lines: so none writes on one of what is outstanding.
-use Rattle.std.proofs.Common.{◌≡◌, ◌∙◌, ◌⊎◌, inl, inr, ℕ, zero, suc, ◌==◌, ◌||◌, ◌++◌, cond, Bool, true, false, true≢false, All, List, [], ◌∷◌, Option, Some, None, drop, refl, slice_get, sym, ap, ap₂, subst}
+use Rattle.std.proofs.Common.{◌≡◌, ◌∙◌, ℕ, zero, suc, ◌==◌, ◌||◌, ◌++◌, cond, Bool, true, false, true≢false, All, List, [], ◌∷◌, Option, Some, None, drop, refl, slice_get, sym, ap, ap₂, subst}
 use Rattle.std.proofs.lemmas.List.Elements.{All-cons, All-head, All-nil, All-push, All-tail}
-use Rattle.std.specs.List.{filter, flat_map, list_any}
+use Rattle.std.specs.List.{list_any}
 use Rattle.boot_text.specs.declared.plan.Line.{Line}
 use Rattle.boot_text.specs.declared.verb.Verb.{Verb}
 use Rattle.boot_text.specs.declared.verb.Verb.TheVariants as verbs
 use Rattle.vio_trace.specs.declared.outcome.Outcome.{Outcome}
 use Rattle.vio_trace.specs.declared.rows.LogRow.{LogRow}
-use Rattle.vcpu_run.specs.Credited.{Ended, ended_by}
+use Rattle.vcpu_run.specs.Credited.{ended_by}
 use Rattle.vcpu_run.specs.OwnPairs.{SparesLines}
 use Rattle.vcpu_run.specs.PlainClients.{IsPlainClient, keeps_own, lie_behind, lines_of, tables_in, tables_of, written_by}
 use Rattle.vcpu_run.specs.PlainScripts.{after_ended}
@@ -15,7 +15,6 @@ use Rattle.vcpu_run.specs.PlainSteps.{IsPlainVerb, SparesTables}
 use Rattle.vcpu_run.specs.Replay.{Asked, Range, Replay, after_line, any_share, before_lines, left_unless, logout_refusal, ranges_of, refusal, share_page, with_asked}
 use Rattle.vcpu_run.proofs.PlainRights.{own_named}
 use Rattle.vcpu_run.proofs.Driving.{some_is}
-use Rattle.vcpu_run.proofs.Logging.{all_at}
 
 -- ---- lists
 

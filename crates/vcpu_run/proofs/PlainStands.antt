@@ -1,27 +1,26 @@
 -- What stands in a window that is its owner's own: what a read finds there, and what stays there behind a write elsewhere.
-use Rattle.std.proofs.Common.{◌≡◌, ◌∙◌, ◌⊎◌, inl, inr, ℕ, ◌+◌, ◌-◌, ◌*◌, ◌/◌, ◌%◌, ◌<◌, ◌≤◌, ◌==◌, ◌++◌, min, All, Bool, true, false, cond, IsTrue, List, [], ◌∷◌, Option, Some, None, IsSome, append-nil, drop, get_or, length, length-append, length-drop, length-take, refl, slice_get, slice_range, sym, take, ap, ap₂, subst, arith}
+use Rattle.std.proofs.Common.{◌≡◌, ◌∙◌, ℕ, ◌+◌, ◌*◌, ◌/◌, ◌%◌, ◌<◌, ◌≤◌, ◌++◌, All, true, List, [], ◌∷◌, Option, Some, None, IsSome, append-nil, drop, get_or, length, length-append, refl, slice_get, sym, take, ap, ap₂, subst, arith}
 use Rattle.std.specs.List.{flat_map}
 use Rattle.std.proofs.lemmas.Bool.Decides.{nat_tests}
 use Rattle.std.proofs.lemmas.Grind.{same_number_lists}
 use Rattle.std.proofs.lemmas.List.{get_or-drop, get_or-take, take_all}
-use Rattle.std.proofs.lemmas.List.Elements.{All-cons, All-head, All-nil}
+use Rattle.std.proofs.lemmas.List.Elements.{All-head}
 use Rattle.page_slots.specs.Page.{left_by}
 use Rattle.page_slots.specs.Stroke.{StrokeValue}
-use Rattle.page_slots.specs.declared.stroke.StrokeName.{StrokeName}
 use Rattle.vio_num.specs.declared.names.UnitId.{UnitId}
 use Rattle.tce_window.specs.declared.answers.Right.{Right}
 use Rattle.tce_window.specs.declared.answers.Right.TheVariants.{Read, Write}
 use Rattle.tce_window.specs.declared.piece.Piece.{Piece}
 use Rattle.tce_window.specs.Grant.{IsCurrent, grants}
-use Rattle.tce_window.specs.Moved.{left_at, read_bytes, stroke_count}
-use Rattle.tce_window.specs.Pieces.{HasStrokes, IsGranted, IsLast, IsUsable, MayUse, Touches}
+use Rattle.tce_window.specs.Moved.{left_at, read_bytes}
+use Rattle.tce_window.specs.Pieces.{HasStrokes, IsGranted, IsUsable, Touches}
 use Rattle.tce_window.specs.PortState.{PortState, Reads}
-use Rattle.tce_window.specs.Region.{byte_in, region_byte}
+use Rattle.tce_window.specs.Region.{byte_in}
 use Rattle.block_server.specs.Talk.{IsReadWhole, StandAt}
 use Rattle.vscsi_client.specs.Units.{slot_address}
 use Rattle.vscsi_client.specs.declared.TheConstants.{DATA_START, SLOTS}
 use Rattle.vcpu_run.specs.PlainTalk.{HasRights, IsOwnWindow, shown, shown_on}
-use Rattle.vcpu_run.proofs.PlainPages.{left_long, shown_long}
+use Rattle.vcpu_run.proofs.PlainPages.{shown_long}
 
 -- ---- entries
 
@@ -103,10 +102,6 @@ read_shown window own address len read some fits whole long =
     ∙ ap₂ (λ (start count : ℕ). shown_on (window.strokes one.piece.page) start count) one.offset one.long
     ∙ ap (λ (p : ℕ). shown_on (window.strokes p) (address % 4096) len) page
 
-has_all : (piece : Piece) (now : Option (List StrokeValue)) → IsSome now → piece.at ≡ stroke_count now → HasStrokes piece now
-has_all piece None there at = absurd (cc (there))
-has_all piece (Some strokes) there at = at
-
 -- a range on a page of the region, which is one of the driver's
 pub record IsOnPage (window : PortState) (address len : ℕ) : Type 0 where
   pub some : 1 ≤ len
@@ -114,52 +109,10 @@ pub record IsOnPage (window : PortState) (address len : ℕ) : Type 0 where
   pub inside : address / 4096 < window.place.size
   pub front : 4096 * (address / 4096) < DATA_START
 
-pub shown_read : (window : PortState) → IsOwnWindow window → HasRights window → (address len : ℕ) → IsOnPage window address len
-    → IsReadWhole window address (shown window address len)
-shown_read window own rights address len on = record {
-  pieces = piece ∷ [];
-  read = record {
-    touched = (
-      omega (arith, long, on.some),
-      record { unit_is = refl; entry = refl; offset = refl; len = omega (arith, long, on.fits) },
-      omega (arith, long),
-    );
-    granted = All-cons (IsGranted window.values Read) piece []
-        (record { value = 4096 * page + 3; shown = now.1.shown; granted = grants_all Read page; page = omega arith })
-        (All-nil (IsGranted window.values Read));
-    reached = All-cons (λ (one : Piece). one.at ≤ stroke_count (window.strokes one.page)) piece [] (omega arith)
-        (All-nil (λ (one : Piece). one.at ≤ stroke_count (window.strokes one.page)));
-    join = append-nil (read_bytes window.strokes piece) ∙ piece_shown piece (window.strokes page) has;
-  };
-  last = All-cons (IsLast window.values) piece [] now.1.last (All-nil (IsLast window.values));
-  all = All-cons (λ (one : Piece). HasStrokes one (window.strokes one.page)) piece [] has (All-nil (λ (one : Piece). HasStrokes one (window.strokes one.page)));
-}
-  where
-    page : ℕ
-    page = address / 4096
-
-    now : (version : ℕ) × IsCurrent window.values page version (4096 * page + 3)
-    now = own_current window rights page on.front
-
-    piece : Piece
-    piece = record { unit = window.place.unit; entry = page; version = now.0; page = page; offset = address % 4096; len = len; at = stroke_count (window.strokes page); inside = on.fits }
-
-    long : length (shown window address len) ≡ len
-    long = shown_long (window.strokes page) (address % 4096) len (own.there page on.inside) on.fits
-
-    has : HasStrokes piece (window.strokes page)
-    has = has_all piece (window.strokes page) (own.there page on.inside) refl
-
 -- bytes stand where a window shows them, and there alone, if they may be read
 pub shown_stand : (window : PortState) → IsOwnWindow window → (address : ℕ) (bytes : List ℕ) → IsOnPage window address (length bytes) → shown window address (length bytes) ≡ bytes
     → StandAt window address bytes
 shown_stand window own address bytes on is read whole long = read_shown window own address (length bytes) read on.some on.fits whole long ∙ is
-
-pub stand_shown : (window : PortState) → IsOwnWindow window → HasRights window → (address : ℕ) (bytes : List ℕ) → IsOnPage window address (length bytes) → StandAt window address bytes
-    → shown window address (length bytes) ≡ bytes
-stand_shown window own rights address bytes on stand =
-    stand (shown window address (length bytes)) (shown_read window own rights address (length bytes) on)
-    (shown_long (window.strokes (address / 4096)) (address % 4096) (length bytes) (own.there (address / 4096) on.inside) on.fits)
 
 -- what the owner reads in its region
 pub byte_shown : (strokes : Option (List StrokeValue)) (start count k : ℕ) → IsSome strokes → k < count → get_or (shown_on strokes start count) k 0 ≡ byte_in strokes (start + k)

@@ -1,19 +1,18 @@
 -- What stands in a client's own window behind a write, and behind what a server lays: what was written stands, and what lies elsewhere stays.
-use Rattle.std.proofs.Common.{◌≡◌, ◌≢◌, ◌∙◌, ◌⊎◌, inl, inr, ℕ, ◌+◌, ◌-◌, ◌*◌, ◌/◌, ◌%◌, ◌<◌, ◌≤◌, ◌==◌, ◌++◌, min, All, Bool, true, false, cond, IsTrue, List, [], ◌∷◌, Option, Some, None, IsSome, drop, length, length-drop, length-take, refl, slice_range, sym, take, ap, ap₂, subst, arith}
+use Rattle.std.proofs.Common.{◌≡◌, ◌∙◌, ◌⊎◌, inl, inr, ℕ, ◌+◌, ◌-◌, ◌*◌, ◌/◌, ◌%◌, ◌<◌, ◌≤◌, min, Bool, true, false, cond, List, [], ◌∷◌, Option, Some, None, IsSome, drop, length, length-take, refl, slice_range, sym, ap, ap₂, subst, arith}
 use Rattle.std.proofs.lemmas.Bool.Decides.{nat_tests}
 use Rattle.std.proofs.lemmas.List.{take_all}
-use Rattle.std.proofs.lemmas.List.Elements.{All-cons, All-nil, All-weaker}
+use Rattle.std.proofs.lemmas.List.Elements.{All-cons, All-nil}
 use Rattle.page_slots.specs.Stroke.{StrokeValue}
 use Rattle.page_slots.specs.declared.stroke.StrokeName.{StrokeName}
-use Rattle.tce_window.specs.Pieces.{NamesPage}
 use Rattle.tce_window.specs.Port.{Grows, IsWritten}
 use Rattle.tce_window.specs.PortState.{OnlyWrites, PortState, Writes}
 use Rattle.tce_window.specs.Region.{stroke_on, touches, written}
 use Rattle.tce_window.specs.Strokes.{with_strokes}
-use Rattle.block_server.specs.Ranges.{AddsEach, LaysWithin, StrokeLiesIn, StrokeLiesInOne, known_in}
+use Rattle.block_server.specs.Ranges.{StrokeLiesIn}
 use Rattle.vscsi_client.specs.declared.TheConstants.{DATA_START}
 use Rattle.vcpu_run.specs.PlainTalk.{IsOwnEntry, IsOwnWindow, shown, shown_on}
-use Rattle.vcpu_run.proofs.PlainPages.{IsApart, left_long, shown_apart, shown_last}
+use Rattle.vcpu_run.proofs.PlainPages.{IsApart, shown_apart, shown_last}
 use Rattle.vcpu_run.proofs.PlainStands.{IsOnPage}
 
 -- two ranges have no byte in common

@@ -1,5 +1,5 @@
 -- What is so between a plain client and its server unit stays so where nothing is put, taken or answered, and the slots stay.
-use Rattle.std.proofs.Common.{◌≡◌, ◌∙◌, ◌⊎◌, inl, inr, ℕ, ◌*◌, ◌/◌, ◌%◌, ◌<◌, ◌≤◌, ◌++◌, All, true, false, List, [], ◌∷◌, Option, Some, None, IsSome, is_some, length, min, nat_le, refl, sym, ap, ap₂, subst, arith}
+use Rattle.std.proofs.Common.{◌≡◌, ◌∙◌, ◌⊎◌, inl, inr, ℕ, ◌*◌, ◌/◌, ◌%◌, ◌<◌, ◌≤◌, ◌++◌, All, true, false, List, [], ◌∷◌, Option, Some, None, IsSome, is_some, length, min, nat_le, refl, sym, ap, ap₂, subst}
 use Rattle.std.proofs.lemmas.List.Elements.{All-append, All-cons, All-nil}
 use Rattle.std.specs.Prelude.{⊤}
 use Rattle.vio_num.specs.declared.entry.Entry.{Entry}

@@ -1,16 +1,15 @@
 -- The bytes of a plain client's window, one by one: what a read of it finds, and which stay behind a write elsewhere. By them its tables
 -- stay, and a server unit writes the data of a command behind the driver's pages.
-use Rattle.std.proofs.Common.{◌≡◌, ◌≢◌, ◌∙◌, ◌⊎◌, inl, inr, ℕ, zero, suc, ◌+◌, ◌-◌, ◌*◌, ◌/◌, ◌%◌, ◌<◌, ◌≤◌, ◌++◌, All, Bool, true, false, cond, List, [], ◌∷◌, Option, Some, None, IsSome, drop, get_or, length, refl, sym, take, ap, ap₂, subst, arith}
+use Rattle.std.proofs.Common.{◌≡◌, ◌∙◌, ◌⊎◌, inl, inr, ℕ, ◌+◌, ◌-◌, ◌/◌, ◌%◌, ◌<◌, ◌≤◌, ◌++◌, All, List, [], ◌∷◌, Option, Some, None, IsSome, get_or, length, refl, sym, ap, ap₂, subst, arith}
 use Rattle.std.specs.List.{flat_map}
 use Rattle.std.proofs.Math.ListN.{get_or-append}
 use Rattle.std.proofs.lemmas.Bool.{cases_lt}
-use Rattle.std.proofs.lemmas.Bool.Decides.{nat_tests}
 use Rattle.std.proofs.lemmas.Grind.{same_number_lists}
 use Rattle.std.proofs.lemmas.List.{get_or-append_right}
-use Rattle.std.proofs.lemmas.List.Elements.{All-head, All-nil, All-tail, All-weaker}
+use Rattle.std.proofs.lemmas.List.Elements.{All-head, All-tail}
 use Rattle.page_slots.specs.Stroke.{StrokeValue}
 use Rattle.vio_num.specs.declared.names.UnitId.{UnitId}
-use Rattle.tce_window.specs.Moved.{left_at, read_bytes}
+use Rattle.tce_window.specs.Moved.{read_bytes}
 use Rattle.tce_window.specs.Pieces.{HasStrokes, IsGranted, Touches}
 use Rattle.tce_window.specs.PortState.{PortState}
 use Rattle.tce_window.specs.Region.{byte_in, region_byte}
@@ -18,7 +17,7 @@ use Rattle.tce_window.specs.declared.answers.Right.TheVariants.{Read}
 use Rattle.tce_window.specs.declared.piece.Piece.{Piece}
 use Rattle.block_server.specs.Talk.{IsReadWhole}
 use Rattle.vcpu_run.specs.PlainTalk.{IsOwnWindow, shown, shown_on}
-use Rattle.vcpu_run.proofs.PlainPages.{left_long, shown_long}
+use Rattle.vcpu_run.proofs.PlainPages.{shown_long}
 use Rattle.vcpu_run.proofs.PlainStands.{byte_shown, own_page, piece_shown}
 
 -- ---- what a read finds

@@ -1,6 +1,6 @@
 -- What a plain client's taking of an answer leaves between it and its server unit: the oldest of what has its answer is done with.
 use Rattle.std.specs.Prelude.{⊤}
-use Rattle.std.proofs.Common.{◌≡◌, ◌≢◌, ◌∙◌, ◌⊎◌, inl, inr, ℕ, ◌+◌, ◌≤◌, ◌++◌, not, nat_le, All, Bool, true, false, true≢false, cond, List, [], ◌∷◌, Option, Some, None, drop, is_some, length, length-append, map, min, refl, sym, ap, subst, arith}
+use Rattle.std.proofs.Common.{◌≡◌, ◌∙◌, ◌⊎◌, ℕ, ◌≤◌, ◌++◌, not, nat_le, All, Bool, true, false, cond, List, [], ◌∷◌, Option, Some, None, drop, is_some, length, length-append, min, refl, sym, ap, subst, arith}
 use Rattle.std.proofs.lemmas.List.Elements.{All-tail}
 use Rattle.srp_iu.specs.declared.unit.Iu.{Iu}
 use Rattle.tce_window.specs.PortState.{PortState}

@@ -1,11 +1,8 @@
 -- What a plain client's look for an answer leaves between it and its server unit: the oldest answer that is there is taken, or there is none.
-use Rattle.std.proofs.Common.{◌≡◌, ◌≢◌, ◌∙◌, ◌⊎◌, inl, inr, ℕ, suc, zero, ◌+◌, ◌<◌, ◌≤◌, ◌==◌, ◌++◌, All, Bool, true, false, true≢false, cond, List, [], ◌∷◌, Option, Some, None, append-nil, drop, get_or, length, length-append, map, refl, slice_get, sym, ap, ap₂, subst, arith}
-use Rattle.std.specs.Prelude.{⊤}
-use Rattle.std.proofs.lemmas.Bool.{eq-eqb}
+use Rattle.std.proofs.Common.{◌≡◌, ◌∙◌, ◌⊎◌, inl, inr, ℕ, suc, zero, ◌+◌, ◌≤◌, ◌++◌, All, Bool, true, false, true≢false, cond, List, [], ◌∷◌, Some, drop, length, length-append, refl, slice_get, sym, ap, ap₂, subst, arith}
 use Rattle.std.proofs.lemmas.List.Elements.{All-head}
-use Rattle.vio_num.specs.Entry.{srp_entry}
 use Rattle.vio_num.specs.declared.entry.Entry.{Entry}
-use Rattle.crq_ring.proofs.SessionLaws.{of_session-append, of_session-nil, of_session-push}
+use Rattle.crq_ring.proofs.SessionLaws.{of_session-append}
 use Rattle.crq_ring.specs.Sessions.{of_session}
 use Rattle.crq_ring.specs.declared.rows.PipeRow.{PipeRow}
 use Rattle.crq_session.specs.Answered.{FindsNone, received_now, taken_now}
@@ -14,24 +11,17 @@ use Rattle.srp_iu.specs.Grammar.{Spells}
 use Rattle.srp_iu.specs.declared.response.Rsp.{Rsp}
 use Rattle.srp_iu.specs.declared.unit.Iu.{Iu}
 use Rattle.srp_iu.specs.declared.unit.Iu.TheVariants as units
-use Rattle.tce_window.specs.PortState.{OnlyReads, PortState}
 use Rattle.block_server.specs.Talk.{tag_asked, to_come}
-use Rattle.vscsi_client.specs.State.{ClientState}
-use Rattle.vscsi_client.specs.Taking.{Fetches, IsNext, Judges, Polls, PollsEmpty, TakesAs, TakesEntry, TakesNone, taken_by, without_tag}
+use Rattle.vscsi_client.specs.Taking.{IsNext, Polls, PollsEmpty}
 use Rattle.vscsi_client.specs.Units.{slot_address}
 use Rattle.vscsi_client.specs.declared.TheConstants.{SLOTS}
-use Rattle.vscsi_client.specs.declared.answers.Taken.{Taken}
-use Rattle.vscsi_client.specs.declared.answers.Taken.TheVariants.{Again, Answer, Empty, Lost, Other, Stray}
 use Rattle.vscsi_client.specs.declared.outgoing.Outgoing.{Outgoing}
 use Rattle.vscsi_client.specs.declared.stage.Stage.{Stage}
 use Rattle.vscsi_client.specs.declared.stage.Stage.TheVariants.{Idle}
-use Rattle.vcpu_run.specs.PlainTalk.{Ask, AskedParts, Between, HasAnswer, HaveAnswers, IsAsk, IsCalm, IsOwnWindow, IsTalking, ServerStays, ShowsAt, all_asked, awaited, has_login, is_counted, is_login, is_logout, is_sent, login_name, name_of, names_of, client_ports}
+use Rattle.vcpu_run.specs.PlainTalk.{Ask, AskedParts, Between, HasAnswer, HaveAnswers, IsAsk, IsOwnWindow, IsTalking, ShowsAt, all_asked, has_login, is_counted, is_login, is_logout, is_sent, login_name, name_of, names_of}
 use Rattle.vcpu_run.proofs.PlainAsks.{answer_to}
-use Rattle.vcpu_run.proofs.PlainJudged.{HoldsResponse, TellsOldest, counted_answer, is_answer}
-use Rattle.vcpu_run.proofs.PlainPuts.{LeavesWindow}
-use Rattle.vcpu_run.proofs.PlainReady.{all_front}
-use Rattle.vcpu_run.proofs.PlainStill.{StandsStill, reads_leave, talk_still}
-use Rattle.vcpu_run.proofs.PlainTakes.{TakesHead, answers_head, first_slot, first_tag, takes_talk}
+use Rattle.vcpu_run.proofs.PlainJudged.{TellsOldest, counted_answer}
+use Rattle.vcpu_run.proofs.PlainTakes.{answers_head, first_slot, first_tag}
 use Rattle.vcpu_run.proofs.PlainTurns.{come_same, own_rows}
 
 -- ---- what is to come

@@ -1,9 +1,8 @@
 -- The entry that a plain client took as it waits for a login: what it tells of, by what is asked.
-use Rattle.std.proofs.Common.{◌≡◌, ◌≢◌, ◌∙◌, ◌⊎◌, inl, inr, ℕ, ◌+◌, ◌<◌, ◌≤◌, ◌==◌, ◌||◌, ◌++◌, find, All, Bool, true, false, true≢false, cond, List, [], ◌∷◌, Option, Some, None, IsSome, append_assoc, refl, sym, ap, subst, arith}
+use Rattle.std.proofs.Common.{◌≡◌, ◌≢◌, ◌∙◌, ◌⊎◌, inl, inr, ℕ, ◌<◌, ◌==◌, ◌||◌, ◌++◌, find, All, Bool, true, false, true≢false, cond, List, [], ◌∷◌, Some, None, IsSome, refl, sym, ap, subst, arith}
 use Rattle.std.specs.Option.{option_map}
 use Rattle.std.proofs.lemmas.Bool.Decides.{nat_tests}
 use Rattle.std.proofs.lemmas.List.Elements.{All-cons, All-head, All-nil, All-push, All-tail}
-use Rattle.vio_num.specs.Entry.{srp_entry}
 use Rattle.vio_num.specs.declared.entry.Entry.{Entry}
 use Rattle.srp_iu.specs.declared.unit.Iu.{Iu}
 use Rattle.tce_window.specs.PortState.{PortState}
@@ -14,9 +13,8 @@ use Rattle.vscsi_client.specs.Taking.{slot_of}
 use Rattle.vscsi_client.specs.declared.outgoing.Outgoing.{Outgoing}
 use Rattle.vscsi_client.specs.declared.stage.Stage.{Stage}
 use Rattle.vscsi_client.specs.declared.stage.Stage.TheVariants.{Idle, Sent, Written}
-use Rattle.vcpu_run.specs.PlainTalk.{AreInOrder, Ask, AskedParts, Between, HaveAnswers, IsTalking, TagsRise, all_asked, has_login, is_login, is_logout, is_sent, login_name, name_of, names_of}
+use Rattle.vcpu_run.specs.PlainTalk.{AreInOrder, Ask, HaveAnswers, TagsRise, has_login, is_login, is_logout, is_sent, login_name, name_of, names_of}
 use Rattle.vcpu_run.proofs.PlainAsks.{all_parts, names_push}
-use Rattle.vcpu_run.proofs.PlainEnds.{IsAmong}
 use Rattle.vcpu_run.proofs.PlainLists.{login_no_logout}
 
 -- ---- tags

@@ -22,7 +22,6 @@ use Rattle.block_server.specs.Talk.{HearsAll, Word, talk_of, to_come}
 use Rattle.block_server.specs.Written.{IsAnswerWritten}
 use Rattle.block_server.specs.declared.unit.Unit.{Unit}
 use Rattle.boot_text.specs.declared.plan.Partition.{Partition}
-use Rattle.boot_text.specs.declared.plan.UnitPlan.TheVariants as units
 use Rattle.lan_script.specs.Units.{LanValue}
 use Rattle.lan_script.specs.declared.rows.LanRows.{LanRows}
 use Rattle.vcpu_run.specs.Answered.{AreBegun}
@@ -49,7 +48,6 @@ use Rattle.vcpu_run.specs.Units.{seats_of}
 use Rattle.vcpu_run.specs.declared.driver.Driver.{Driver}
 use Rattle.vcpu_run.specs.declared.pair.Pair.{Pair}
 use Rattle.vcpu_run.specs.declared.script.Script.{Script}
-use Rattle.vcpu_run.specs.declared.unit_seat.Seat.TheVariants as sits
 use Rattle.vcpu_run.proofs.AnswersFound.{client_answers, client_entries}
 use Rattle.vcpu_run.proofs.Driving.{some_is}
 use Rattle.vcpu_run.proofs.EndPairs.{home_named, pair_laws, script_found, script_tells, taken_at}

@@ -1,16 +1,16 @@
 -- A plain client's look for an answer: the oldest answer that is there is taken, or there is none.
-use Rattle.std.proofs.Common.{◌≡◌, ◌≢◌, ◌∙◌, ◌⊎◌, inl, inr, ℕ, ◌+◌, ◌-◌, ◌≤◌, ◌==◌, ◌++◌, Bool, true, false, cond, List, [], ◌∷◌, Option, Some, None, length, length-set, refl, sym, ap, ap₂, subst}
+use Rattle.std.proofs.Common.{◌≡◌, ◌∙◌, ◌⊎◌, inl, inr, ℕ, ◌-◌, ◌++◌, false, cond, List, [], ◌∷◌, length, length-set, refl, sym, ap, subst}
 use Rattle.std.specs.Prelude.{⊤, slice_index_or}
 use Rattle.std.proofs.lemmas.Bool.{eq-eqb}
 use Rattle.vio_num.specs.declared.entry.Entry.{Entry}
 use Rattle.crq_session.specs.Answered.{FindsNone}
-use Rattle.crq_session.specs.EndState.{EndState, OnlyReserves, OnlyTakes}
+use Rattle.crq_session.specs.EndState.{OnlyReserves, OnlyTakes}
 use Rattle.srp_iu.specs.declared.response.Rsp.{Rsp}
 use Rattle.srp_iu.specs.declared.unit.Iu.{Iu}
 use Rattle.tce_window.specs.PortState.{OnlyReads, PortState}
 use Rattle.block_server.specs.Talk.{to_come}
 use Rattle.vscsi_client.specs.State.{ClientState}
-use Rattle.vscsi_client.specs.Taking.{Judges, PollsEmpty, TakesAs, TakesEntry, TakesNone, row_answered, taken_by, without_tag, answered}
+use Rattle.vscsi_client.specs.Taking.{Judges, TakesAs, TakesEntry, TakesNone, row_answered, taken_by, without_tag, answered}
 use Rattle.vscsi_client.specs.declared.answers.Taken.{Taken}
 use Rattle.vscsi_client.specs.declared.answers.Taken.TheVariants.{Again, Answer, Empty, Lost, Other, Stray}
 use Rattle.vscsi_client.specs.declared.outgoing.Outgoing.{Outgoing}
@@ -18,7 +18,7 @@ use Rattle.vscsi_client.specs.declared.row.Row.TheVariants as rows
 use Rattle.vscsi_client.specs.declared.stage.Stage.TheVariants.{Idle}
 use Rattle.vcpu_run.proofs.PlainData.{data_kept}
 use Rattle.vcpu_run.specs.PlainTalk.{Ask, AskedParts, Between, HasAnswer, HaveAnswers, IsCalm, IsOwnWindow, IsTalking, ServerStays, awaited, client_ports}
-use Rattle.vcpu_run.proofs.PlainJudged.{HoldsResponse, TellsOldest, is_answer}
+use Rattle.vcpu_run.proofs.PlainJudged.{HoldsResponse, is_answer}
 use Rattle.vcpu_run.proofs.PlainPuts.{LeavesWindow}
 use Rattle.vcpu_run.proofs.PlainSlots.{keeps_same}
 use Rattle.vcpu_run.proofs.PlainStarts.{answered_places}

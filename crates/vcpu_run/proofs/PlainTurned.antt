@@ -1,21 +1,17 @@
 -- A plain client and its server unit at their pair: through which borrows the link is reached does not matter, and what a turn leaves of
 -- the window and of what is pending.
-use Rattle.std.proofs.Common.{◌≡◌, ◌∙◌, ◌+◌, ◌*◌, ◌<◌, ◌≤◌, ◌∷◌, length, inl, inr, ℕ, All, false, List, [], Some, IsSome, refl, sym, ap, subst}
+use Rattle.std.proofs.Common.{◌≡◌, ◌*◌, ◌<◌, ◌≤◌, ◌∷◌, inl, inr, ℕ, false, List, [], Some, IsSome, refl, sym, ap, subst}
 use Rattle.std.specs.Borrow.{GName}
-use Rattle.std.specs.Prelude.{⊤}
-use Rattle.std.proofs.lemmas.List.Elements.{All-head, All-nil, All-push, All-tail}
 use Rattle.vio_num.specs.declared.history.Grant.{Grant}
-use Rattle.crq_session.specs.Answered.{taken_now}
 use Rattle.crq_session.specs.EndState.{EndState}
 use Rattle.tce_window.specs.PortState.{PortState}
 use Rattle.srp_iu.specs.declared.unit.Iu.{Iu}
 use Rattle.block_server.specs.Ranges.{Known, MayWrite, WritesOn, known_in, seen_in}
 use Rattle.block_server.specs.Standing.{stood}
-use Rattle.block_server.specs.Talk.{HearsAll, Talk, Word, order_asked, talk_of}
-use Rattle.block_server.specs.Talk.Word.{asks, begins, gone}
+use Rattle.block_server.specs.Talk.{Word, talk_of}
 use Rattle.block_server.specs.declared.request.Request.{Request}
 use Rattle.vscsi_client.specs.declared.TheConstants.{DATA_START}
-use Rattle.vcpu_run.specs.PlainTalk.{AgreeOnLogin, AskedParts, Between, GoesBehind, HasRights, InPhase, IsAway, IsBeginning, IsCalm, IsOwnEntry, IsOwnWindow, IsTalking, TalksPlainly}
+use Rattle.vcpu_run.specs.PlainTalk.{AgreeOnLogin, AskedParts, Between, HasRights, InPhase, IsAway, IsBeginning, IsCalm, IsOwnEntry, IsOwnWindow, IsTalking, TalksPlainly}
 use Rattle.vcpu_run.proofs.PlainRights.{rights_same}
 use Rattle.vcpu_run.proofs.PlainLeaves.{lays_own}
 use Rattle.vcpu_run.proofs.PlainTurns.{Turns}

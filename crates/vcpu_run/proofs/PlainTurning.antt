@@ -1,5 +1,5 @@
 -- A turn of a script, its first and its last lines, and a line that waited and was ended: as plain clients see them.
-use Rattle.std.proofs.Common.{◌≡◌, ◌≢◌, ◌∙◌, ◌⊎◌, inl, inr, ℕ, ◌+◌, ◌==◌, ◌++◌, ◌&&◌, All, not, Bool, true, false, true≢false, List, [], ◌∷◌, Option, Some, None, IfSome, IsSomeAnd, is_some, length, refl, slice_get, sym, ap, subst, arith, eqb-true}
+use Rattle.std.proofs.Common.{◌≡◌, ◌∙◌, ◌⊎◌, inl, inr, ℕ, ◌+◌, ◌==◌, ◌++◌, ◌&&◌, All, not, Bool, true, false, true≢false, List, [], ◌∷◌, Option, Some, None, IfSome, IsSomeAnd, is_some, length, refl, slice_get, sym, ap, subst, arith, eqb-true}
 use Rattle.boot_text.specs.declared.plan.Line.{Line}
 use Rattle.vio_num.specs.Entry.{is_srp_entry}
 use Rattle.vio_num.specs.declared.entry.Entry.{Entry}

@@ -1,9 +1,9 @@
 -- What a turn of a plain client's server unit leaves between them: it heard all that was to come, and the oldest of what was pending has
 -- its answer.
-use Rattle.std.proofs.Common.{◌≡◌, ◌≢◌, ◌∙◌, ◌⊎◌, inl, inr, ℕ, suc, zero, ◌+◌, ◌-◌, ◌<◌, ◌≤◌, ◌++◌, ◌&&◌, not, nat_le, All, Bool, true, false, cond, List, [], ◌∷◌, Option, Some, None, append-nil, append_assoc, drop, is_some, length, length-append, map, refl, sym, ap, subst, arith}
+use Rattle.std.proofs.Common.{◌≡◌, ◌∙◌, inl, inr, ℕ, ◌+◌, ◌≤◌, ◌++◌, Bool, true, false, cond, List, [], ◌∷◌, append-nil, drop, length, refl, sym, ap, subst, arith}
 use Rattle.std.proofs.lemmas.List.{drop-append-le}
 use Rattle.std.proofs.lemmas.List.Elements.{All-nil}
-use Rattle.vio_num.specs.Entry.{initialization_complete, srp_entry}
+use Rattle.vio_num.specs.Entry.{initialization_complete}
 use Rattle.vio_num.specs.declared.entry.Entry.{Entry}
 use Rattle.vio_num.specs.declared.history.Grant.{Grant}
 use Rattle.crq_ring.proofs.SessionLaws.{of_session-append, of_session-nil, of_session-push}
@@ -11,7 +11,7 @@ use Rattle.crq_ring.specs.Sessions.{of_session}
 use Rattle.crq_ring.specs.declared.rows.PipeRow.{PipeRow}
 use Rattle.crq_session.specs.Answered.{received_now, taken_now}
 use Rattle.crq_session.specs.EndState.{EndPlace, EndState}
-use Rattle.block_server.specs.Talk.{AnswersRequest, EndsService, HasHeard, HasHeardAll, HearsAll, HearsOne, LogsOut, PutsReplies, Reach, Replies, ServesFirst, ServesNext, ServesNone, SettlesLogins, Talk, TalksOn, Word, reach, replies, session_rows, talk_of, to_come}
+use Rattle.block_server.specs.Talk.{AnswersRequest, HearsAll, PutsReplies, ServesFirst, ServesNext, ServesNone, SettlesLogins, Talk, TalksOn, Word, reach, replies, session_rows, talk_of, to_come}
 use Rattle.block_server.specs.Talk.Word.{asks, begins, gone}
 use Rattle.block_server.specs.declared.logins.Logins.{Logins}
 use Rattle.block_server.specs.declared.request.Request.{Request}

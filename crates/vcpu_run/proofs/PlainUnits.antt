@@ -1,7 +1,7 @@
 -- Bytes of information units: what is canonical is spelled, and an answer is still spelled with other bytes behind it.
-use Rattle.std.proofs.Common.{◌≡◌, ◌∙◌, ℕ, zero, suc, ◌+◌, ◌*◌, ◌^◌, ◌<◌, ◌≤◌, ◌++◌, List, [], ◌∷◌, drop, length, length-append, length-drop, get_or, refl, sym, take, ap, ap₂, subst, arith}
+use Rattle.std.proofs.Common.{◌≡◌, ◌∙◌, ℕ, zero, suc, ◌+◌, ◌*◌, ◌^◌, ◌<◌, ◌≤◌, ◌++◌, List, drop, length, length-append, length-drop, refl, sym, take, ap, ap₂, arith}
 use Rattle.std.specs.Prelude.{slice_index}
-use Rattle.std.proofs.lemmas.List.{drop-append-le, get_or-drop, take-append-le}
+use Rattle.std.proofs.lemmas.List.{drop-append-le, take-append-le}
 use Rattle.std.proofs.lemmas.List.{get_or_append_left}
 use Rattle.byteorder.specs.Endian.{big_from, big_number}
 use Rattle.srp_iu.specs.Grammar.{Canon, Spells}

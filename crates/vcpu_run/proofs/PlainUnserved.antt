@@ -1,5 +1,5 @@
 -- A turn of a server unit lays no stroke in the window of a client whose queue is not registered: nothing is pending.
-use Rattle.std.proofs.Common.{◌≡◌, ◌≢◌, ◌∙◌, inl, inr, ℕ, true, false, true≢false, List, [], ◌∷◌, Some, length, sym, ap}
+use Rattle.std.proofs.Common.{◌≡◌, ◌∙◌, inl, inr, ℕ, true, false, true≢false, List, [], ◌∷◌, Some, length, sym, ap}
 use Rattle.std.specs.Borrow.{GName}
 use Rattle.vio_num.specs.declared.history.Grant.{Grant}
 use Rattle.vio_num.specs.declared.names.UnitId.{UnitId}

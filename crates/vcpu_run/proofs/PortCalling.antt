@@ -112,14 +112,6 @@ unsaid_entries old new unit id row args (Ok returned) isnt grows beside regions 
   here = λ sat of_window. unsaid (port_seen new.lan.now (unit_of old.partition unit)) row args (Ok returned) isnt;
 }
 
-pub still_unsaid : (old new : PartitionUnits) (unit : ℕ) (row : Hcall) (args : List ℕ) (r : Result Returned NoMemory) → is_unsaid row ≡ true
-    → new.lan.now ≡ old.lan.now → IfOk r (AnswersPorts old new unit row args)
-still_unsaid old new unit row args (Err memory) isnt same = tt
-still_unsaid old new unit row args (Ok returned) isnt same = record {
-  all = same_all old.lan.now new.lan.now same;
-  here = λ sat of_window. unsaid (port_seen new.lan.now (unit_of old.partition unit)) row args (Ok returned) isnt;
-}
-
 -- a call at another unit
 pub other_entries : (old new : PartitionUnits) (unit : ℕ) (row : Hcall) (args : List ℕ) (r : Result Returned NoMemory) → (seat_in old unit ≡ Some sits.Port → ⊥)
     → new.lan.now ≡ old.lan.now → IfOk r (AnswersPorts old new unit row args)

@@ -14,12 +14,9 @@ use Rattle.vio_trace.specs.declared.outcome.Outcome.TheVariants as outcomes
 use Rattle.vio_trace.specs.declared.rows.LogRow.{LogRow}
 use Rattle.lan_script.specs.Buffers.{AddsBuffers, buffers_by, buffers_told, line_buffers, posted_at, posted_told}
 use Rattle.lan_script.specs.PortCounts.{PortCounts, counts, counts_by, counts_told}
-use Rattle.lan_script.specs.LineForms.{HasForm}
 use Rattle.lan_script.specs.Replayed.{is_replayed}
 use Rattle.lan_script.specs.Seats.{is_for_port}
-use Rattle.lan_script.specs.Taking.{StaysWithin}
 use Rattle.lan_script.specs.Units.{LanValue}
-use Rattle.lan_script.specs.declared.lines.PortStep.TheVariants as ports
 use Rattle.lan_script.proofs.Laws.{posted_still}
 use Rattle.lan_switch.specs.Switch.{port_of}
 use Rattle.vcpu_run.specs.declared.script.Script.{Script}
@@ -33,20 +30,6 @@ use Rattle.vcpu_run.specs.Suited.{is_call}
 use Rattle.vcpu_run.specs.Works.{fails}
 use Rattle.vcpu_run.proofs.Crediting.{ended_more}
 use Rattle.vcpu_run.proofs.Logging.{all_at}
-
--- what a step at a port says of a line that takes
-took_within : (count done : ℕ) (outcome : Outcome) → StaysWithin (verbs.Take count) done (ports.Ends outcome) → done ≤ count → EndsInForm (verbs.Take count) outcome
-took_within count done (outcomes.Took taken) h less = h less
-took_within count done outcome h less = absurd h
-
-pub ends_within : (verb : Verb) (done : ℕ) (outcome : Outcome) → StaysWithin verb done (ports.Ends outcome) → HasForm verb outcome → TakesNoMore verb done
-    → EndsInForm verb outcome
-ends_within (verbs.Take count) done outcome h form less = took_within count done outcome h less
-ends_within verb done outcome h form less = form
-
-pub waits_within : (verb : Verb) (done far : ℕ) (moved : Moved) → StaysWithin verb done (ports.Waits moved far) → TakesNoMore verb done → TakesNoMore verb far
-waits_within (verbs.Take count) done far moved h less = h less
-waits_within verb done far moved h less = tt
 
 -- a port at which nothing was done, or frames were taken, posted none
 pub idle_posted : (lan lan' : LanValue) (unit : UnitId) → IsIdle lan lan' unit → posted_at lan' unit ≡ posted_at lan unit

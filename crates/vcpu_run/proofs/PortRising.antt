@@ -1,11 +1,10 @@
 -- What a step or a call at a LAN unit makes of the ports, as their lines tell of them.
-use Rattle.std.proofs.Common.{◌≡◌, ◌≢◌, ◌⊎◌, inl, inr, ℕ, zero, suc, ◌≤◌, cond, length, Bool, true, false, true≢false, IfSome, List, [], ◌∷◌, ◌++◌, append-nil, Option, Some, None, map, refl, sym, ◌∙◌, ap, subst, arith}
+use Rattle.std.proofs.Common.{◌≡◌, ◌≢◌, ◌⊎◌, inl, inr, ℕ, zero, suc, ◌≤◌, cond, length, Bool, true, false, true≢false, List, [], ◌∷◌, ◌++◌, append-nil, Option, Some, None, map, refl, sym, ◌∙◌, ap, subst, arith}
 use Rattle.std.specs.List.{Contains}
 use Rattle.std.proofs.lemmas.List.{map-append}
 use Rattle.std.proofs.lemmas.List.Elements.{Contains-append_cases, Contains-push}
 use Rattle.vio_num.specs.Words.{Begins}
 use Rattle.vio_num.specs.declared.hypervisor.Hrc.{Hrc}
-use Rattle.vio_num.specs.declared.hypervisor.Moved.{Moved}
 use Rattle.vio_num.specs.declared.names.UnitId.{UnitId}
 use Rattle.boot_text.specs.declared.verb.Verb.{Verb}
 use Rattle.lan_switch.specs.Switch.{same_unit}
@@ -15,11 +14,8 @@ use Rattle.vio_trace.specs.declared.outcome.Outcome.TheVariants as outcomes
 use Rattle.unit_region.specs.declared.step.Step.TheVariants as steps
 use Rattle.lan_script.specs.declared.calls.PortCall.{PortCall}
 use Rattle.lan_script.specs.declared.calls.PortCall.TheVariants as calls
-use Rattle.lan_script.specs.LineForms.{StepForm}
-use Rattle.lan_script.specs.SendRanges.{SaysRange, StepRanges}
 use Rattle.lan_script.specs.declared.lines.PortStep.{PortStep}
 use Rattle.lan_script.specs.declared.lines.PortStep.TheVariants as ports
-use Rattle.lan_script.specs.declared.seat.PortSeat.{PortSeat}
 use Rattle.lan_script.specs.Correlators.{KeepsAddresses}
 use Rattle.lan_script.specs.Invariant.{sent_by}
 use Rattle.lan_script.specs.LineBytes.{StepsBytes}
@@ -29,20 +25,16 @@ use Rattle.lan_script.specs.Regions.{LaysLine, RegionsGrow}
 use Rattle.vcpu_run.specs.PortRegions.{RegionKept, RegionsKept}
 use Rattle.vcpu_run.proofs.PortKept.{kept_placed, line_beside}
 use Rattle.lan_script.specs.Replayed.{IsFirst, Replays, SameBeside, SameReplays, bytes_sent, replay_at}
-use Rattle.lan_script.specs.Buffers.{PostsStep}
-use Rattle.lan_script.specs.OwnMac.{MovesMac, StepsMac}
+use Rattle.lan_script.specs.OwnMac.{MovesMac}
 use Rattle.lan_script.specs.PortReplay.{PortReplay}
 use Rattle.lan_script.specs.Spent.{AllGrow}
-use Rattle.lan_script.specs.Taking.{StaysWithin}
 use Rattle.lan_script.specs.Targets.{IsTarget, offers_to}
 use Rattle.lan_script.specs.Units.{LanValue, to_of}
 use Rattle.lan_script.specs.Values.{NamesOwn, SameValues, SameValuesBeside, is_put, puts_other}
 use Rattle.lan_script.specs.Windows.{facts_in}
 use Rattle.lan_script.proofs.Laws.{mac_same, self, one_unit, posts_same, same_posted}
 use Rattle.vcpu_run.specs.PortBytes.{StepBytes, StepSendsBytes}
-use Rattle.vcpu_run.specs.PortPosts.{StepFits}
-use Rattle.vcpu_run.proofs.PortPosting.{ends_within, waits_within}
-use Rattle.vcpu_run.specs.PortSteps.{AllSilent, IsBeside, StepRises, TakesOn}
+use Rattle.vcpu_run.specs.PortSteps.{AllSilent, IsBeside, TakesOn}
 use Rattle.vcpu_run.specs.PortReplays.{IsStill, OffersSince, SendsFrame, StepReplays, sent_at}
 use Rattle.vcpu_run.specs.PortWords.{FrameTold, frame_of, frame_told, frames_at}
 
@@ -188,16 +180,6 @@ sent_step unit (ports.Ends (outcomes.Posted buffers code)) old new seats h = non
 sent_step unit (ports.Ends outcomes.Done) old new seats h = none_sent unit old new seats h
 sent_step unit (ports.Ends (outcomes.Bytes shown)) old new seats h = none_sent unit old new seats h
 
--- a step of a line at a unit that ends it, or that waits
-pub step_ended : (unit : UnitId) (verb : Verb) (done done' : ℕ) (outcome : Outcome) (old new : LanValue) → new.seats ≡ old.seats
-    → SendsAs unit (ports.Ends outcome) old new → CountsStep unit verb done (ports.Ends outcome) old new
-    → StepRises unit verb done done' old new (steps.Ends outcome)
-step_ended unit verb done done' outcome old new seats h k = record {
-  frames = (sent_step unit (ports.Ends outcome) old new seats h).own;
-  posts = k.posts;
-  taken = k.taken;
-}
-
 pub step_beside : (unit : UnitId) (step : PortStep) (before after : PortCounts) (old new : LanValue) → new.seats ≡ old.seats → SendsAs unit step old new
     → CountsOn unit before after old new → SameBeside unit old new → SameValuesBeside unit old new → RegionsGrow old new → (mark : ℕ)
     → LaysLine unit mark old new → IsBeside unit old new
@@ -240,23 +222,6 @@ replays_ended unit verb done outcome old new seats sent counted values replays r
   says = λ first seat able. (replays first seat able).says;
 }
 
-pub replays_waits : (unit : UnitId) (verb : Verb) (done far : ℕ) (moved : Moved) (old new : LanValue) → new.seats ≡ old.seats
-    → SendsAs unit (ports.Waits moved far) old new → CountsStep unit verb done (ports.Waits moved far) old new → (is_put verb ≡ false → SameValues old new) → (IsFirst verb done → Replays unit verb (ports.Waits moved far) old new)
-    → RegionsGrow old new → StepReplays unit verb done old new (steps.Waits moved)
-replays_waits unit verb done far moved old new seats sent counted values replays regions = record {
-  seats = seats;
-  values = λ none. values none unit;
-  rows = (sent_step unit (ports.Waits moved far) old new seats sent).grows;
-  grows = counted.grows unit;
-  others = λ sender beside. (sent_step unit (ports.Waits moved far) old new seats sent).rows sender (apart_of sender unit beside);
-  sends = λ replayed code number e. absurd (waits_on e);
-  regions = regions unit;
-  says = λ first seat able. (replays first seat able).says;
-}
-  where
-    waits_on : {o : Outcome} → steps.Waits moved ≡ steps.Ends o → ⊥
-    waits_on e = cc (e)
-
 -- what it says of the bytes of frames
 same_bytes : (old new : LanValue) (v : UnitId) → new.seats ≡ old.seats → new.frames ≡ old.frames → bytes_sent new v ≡ bytes_sent old v
 same_bytes old new v seats frames = ap (λ (l : List FrameRow). map (λ (r : FrameRow). r.bytes) l) (same_rows old new v seats frames)
@@ -273,36 +238,6 @@ bytes_ended unit verb outcome old new seats sent names bytes addresses = record 
   names = names;
   addresses = addresses;
   sends = λ own. ends_sends unit verb outcome old new seats sent (bytes own);
-}
-
-pub bytes_waits : (unit : UnitId) (verb : Verb) (moved : Moved) (old new : LanValue) → new.seats ≡ old.seats → new.frames ≡ old.frames
-    → (puts_other verb ≡ false → NamesOwn old unit → NamesOwn new unit) → (NamesOwn old unit → KeepsAddresses unit old new)
-    → StepBytes unit verb old new (steps.Waits moved)
-bytes_waits unit verb moved old new seats sent names addresses = record {
-  names = names;
-  sends = λ own. same_bytes old new unit seats sent;
-  addresses = addresses;
-}
-
--- what it says of frames that it took and of buffers that it posted
-pub fits_ended : (unit : UnitId) (verb : Verb) (done done' : ℕ) (outcome : Outcome) (old new : LanValue) → StaysWithin verb done (ports.Ends outcome)
-    → PostsStep unit verb done (ports.Ends outcome) old new → StepsMac unit verb (ports.Ends outcome) old new
-    → StepRanges unit verb (ports.Ends outcome) old.seats → StepForm verb (ports.Ends outcome) → StepFits unit verb done done' old new (steps.Ends outcome)
-fits_ended unit verb done done' outcome old new within posts macs ranges form = record {
-  takes = ends_within verb done outcome within form;
-  posts = posts;
-  macs = macs;
-  ranges = λ seat at. subst (λ (o : Option PortSeat). IfSome o (λ seat. SaysRange seat.pages verb outcome)) at ranges;
-}
-
-pub fits_waits : (unit : UnitId) (verb : Verb) (done far : ℕ) (moved : Moved) (old new : LanValue) → StaysWithin verb done (ports.Waits moved far)
-    → PostsStep unit verb done (ports.Waits moved far) old new → StepsMac unit verb (ports.Waits moved far) old new
-    → StepFits unit verb done far old new (steps.Waits moved)
-fits_waits unit verb done far moved old new within posts macs = record {
-  takes = waits_within verb done far moved within;
-  posts = posts;
-  macs = macs;
-  ranges = tt;
 }
 
 -- where nothing was sent, posted or taken

@@ -10,7 +10,7 @@ use Rattle.vio_num.specs.declared.names.Mac.{Mac}
 use Rattle.vio_num.specs.declared.names.UnitId.{UnitId}
 use Rattle.rdma_copy.specs.declared.copy.CopyRecord.{CopyRecord}
 use Rattle.page_slots.specs.Stroke.{StrokeValue}
-use Rattle.unit_region.specs.RegionLines.{IsOn as LiesOn, region_once}
+use Rattle.unit_region.specs.RegionLines.{IsOn as LiesOn}
 use Rattle.boot_text.specs.declared.plan.Line.{Line}
 use Rattle.boot_text.specs.declared.plan.Partition.{Partition}
 use Rattle.boot_text.specs.SoFar.{has_server, is_server}
@@ -56,9 +56,8 @@ use Rattle.vcpu_run.specs.PortBytes.{NamesOwnPages, bytes_told}
 use Rattle.vcpu_run.specs.PortMacs.{HasMac}
 use Rattle.vcpu_run.specs.PortOffers.{EndsFrame, GoesNow, GoesTo, KeepsOffers, WasTarget}
 use Rattle.vcpu_run.specs.PortPosts.{AreInForm, AreRanged, buffers_of, buffers_under}
-use Rattle.vcpu_run.specs.LinesShow.{Sees}
 use Rattle.vcpu_run.specs.Pairs.{AreOfOneHome}
-use Rattle.vcpu_run.specs.PortRegions.{AreInTurn, IsCurrent, IsLogged, KeepsLogged, KeepsTold, LinesTold, RegionsAreTold, StrokesAreLogged, region_shown, strokes_shown}
+use Rattle.vcpu_run.specs.PortRegions.{AreInTurn, IsCurrent, IsLogged, KeepsLogged, KeepsTold, LinesTold, RegionsAreTold, StrokesAreLogged, strokes_shown}
 use Rattle.vcpu_run.specs.PortReplays.{AreReplayed, IsPlainPort, sent_at}
 use Rattle.vcpu_run.specs.PortWords.{BuffersAreTold, FramesAreOffered, FramesHaveBytes, HasNoCall, KeepsAmong, LinesAreAmong, LinesAreInForm, LinesTell, OffersAreFit, OffersHaveAddress, PortsAreReplayed, PortsAreTold, PortsTell, PostsCarryAddresses, SendsAreRanged, TellsPort, ValuesAreTold, WordsAreAmong, WordsAreTold, buffers_now, counts_now, counts_under, done_in, frame_told, frames_told}
 use Rattle.vcpu_run.specs.PortsRest.{PortsEnd}
@@ -73,11 +72,10 @@ use Rattle.vcpu_run.proofs.Copied.{values_are as window_values}
 use Rattle.vcpu_run.proofs.Following.{each_from_all}
 use Rattle.vcpu_run.proofs.FramesCarried.{HasPortWindow, IsPlannedPort, port_planned, port_shows, port_window_there}
 use Rattle.vcpu_run.proofs.Homes.{all_at, unit_found}
-use Rattle.vcpu_run.proofs.LinesShown.{front_shown, stroke_shown}
 use Rattle.vcpu_run.proofs.Listed.{held}
 use Rattle.vcpu_run.proofs.Parts.{IsIn, each_in, found, in_slice}
 use Rattle.vcpu_run.proofs.Placing.{partitions_are}
-use Rattle.vcpu_run.proofs.PortLines.{seen_as, moments_same}
+use Rattle.vcpu_run.proofs.PortLines.{moments_same}
 use Rattle.vcpu_run.proofs.PortOrder.{IsOwnSeat, ports_own, ports_sized}
 use Rattle.vcpu_run.proofs.RecordLaws.{lines_in, none_past, partitions_apart, rows_told}
 

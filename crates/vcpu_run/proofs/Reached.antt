@@ -19,7 +19,7 @@ use Rattle.vscsi_client.specs.declared.answers.Taken.{Taken}
 use Rattle.vscsi_client.specs.declared.answers.Taken.TheVariants as takens
 use Rattle.vscsi_client.specs.declared.op.Op.{Op}
 use Rattle.vscsi_client.specs.declared.stage.Due.{Due}
-use Rattle.vcpu_run.specs.Reached.{IsBlank, IsBlankBefore, Reaches}
+use Rattle.vcpu_run.specs.Reached.{IsBlank, Reaches}
 use Rattle.vcpu_run.proofs.QueueLaws.{entries_are}
 
 -- Where no login was on, none is, and where no entry was held, none is.

@@ -1,5 +1,5 @@
 -- A client takes the answer that rejects its login beside a server unit whose session is over, or was.
-use Rattle.std.proofs.Common.{◌≡◌, ◌≢◌, ◌∙◌, ◌⊎◌, inl, inr, ℕ, ◌++◌, All, Bool, true, false, true≢false, cond, List, [], ◌∷◌, Some, None, append-nil, length, refl, sym, ap, ap₂, subst}
+use Rattle.std.proofs.Common.{◌≡◌, ◌∙◌, ◌⊎◌, inl, inr, ℕ, ◌++◌, All, Bool, true, false, true≢false, cond, List, [], ◌∷◌, Some, None, append-nil, length, refl, sym, ap, ap₂, subst}
 use Rattle.std.specs.Prelude.{⊤}
 use Rattle.std.proofs.lemmas.List.Elements.{All-cons, All-nil}
 use Rattle.vio_num.specs.declared.entry.Entry.{Entry}

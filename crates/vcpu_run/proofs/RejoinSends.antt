@@ -1,5 +1,5 @@
 -- A client beside a server unit whose session is over, or was, of which nothing more is to come, puts what is due first.
-use Rattle.std.proofs.Common.{◌≡◌, ◌≢◌, ◌∙◌, ◌⊎◌, inl, inr, ℕ, ◌≤◌, ◌++◌, All, Bool, true, false, true≢false, cond, IfSome, List, [], ◌∷◌, Option, None, length, refl, sym, ap, ap₂, subst}
+use Rattle.std.proofs.Common.{◌≡◌, ◌∙◌, ◌⊎◌, inl, inr, ℕ, ◌≤◌, ◌++◌, All, Bool, true, false, true≢false, cond, IfSome, List, [], ◌∷◌, Option, None, length, refl, sym, ap, ap₂, subst}
 use Rattle.std.specs.List.{list_any}
 use Rattle.std.proofs.lemmas.List.Elements.{All-head}
 use Rattle.vio_num.specs.Entry.{srp_entry}

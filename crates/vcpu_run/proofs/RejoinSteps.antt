@@ -5,7 +5,7 @@ use Rattle.vio_num.specs.declared.entry.Entry.{Entry}
 use Rattle.crq_ring.specs.Sessions.{of_session}
 use Rattle.crq_ring.specs.declared.rows.PipeRow.{PipeRow}
 use Rattle.crq_session.specs.Answered.{taken_now}
-use Rattle.crq_session.specs.EndState.{EndCounts, EndPlace, EndState, OnlyReserves, OnlyTakes}
+use Rattle.crq_session.specs.EndState.{EndPlace, EndState, OnlyTakes}
 use Rattle.crq_session.specs.declared.handshake.Handshake.{Handshake}
 use Rattle.crq_session.specs.declared.handshake.Handshake.TheVariants.{Down, Up, Waiting}
 use Rattle.srp_iu.specs.declared.unit.Iu.{Iu}
@@ -86,16 +86,6 @@ pub record StillEnd (old new : EndState) : Type 0 where
   pub kept : new.kept ≡ old.kept
   pub sent : new.sent ≡ old.sent
   pub session : new.counts.partner_session ≡ old.counts.partner_session
-
-pub still_reserves : (old new : EndState) → OnlyReserves old new → StillEnd old new
-still_reserves old new ready = record {
-  place = ready.place;
-  last_session = ready.last_session;
-  registered = ready.registered;
-  kept = ready.kept;
-  sent = ready.sent;
-  session = ap (λ (counts : EndCounts). counts.partner_session) ready.counts;
-}
 
 pub still_takes : (old new : EndState) → OnlyTakes false old new → StillEnd old new
 still_takes old new only = record {

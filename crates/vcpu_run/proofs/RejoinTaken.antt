@@ -1,5 +1,5 @@
 -- A client beside a server unit whose session is over, or was, takes an entry that it is to look at, finds none, or keeps an answer.
-use Rattle.std.proofs.Common.{◌≡◌, ◌≢◌, ◌∙◌, ◌⊎◌, inl, inr, ℕ, ◌≤◌, ◌++◌, All, Bool, true, false, true≢false, IfSome, List, [], ◌∷◌, Option, Some, None, arith, drop, length, min, refl, sym, ap, ap₂, subst}
+use Rattle.std.proofs.Common.{◌≡◌, ◌∙◌, ◌⊎◌, inl, inr, ℕ, ◌≤◌, ◌++◌, All, Bool, true, false, true≢false, IfSome, List, [], ◌∷◌, Option, Some, None, arith, drop, length, min, refl, sym, ap, ap₂, subst}
 use Rattle.std.proofs.lemmas.List.{drop_all}
 use Rattle.vio_num.specs.declared.entry.Entry.{Entry}
 use Rattle.vio_num.specs.declared.names.UnitId.{UnitId}

@@ -1,5 +1,5 @@
 -- A client that took the answer that grants its login, beside a server unit whose session was over: both talk anew.
-use Rattle.std.proofs.Common.{◌≡◌, ◌≢◌, ◌∙◌, ◌⊎◌, inl, inr, ℕ, zero, suc, ◌≤◌, ◌++◌, ◌&&◌, ◌||◌, nat_le, All, Bool, true, false, true≢false, List, [], ◌∷◌, Option, Some, None, is_some, arith, length, min, refl, sym, ap, ap₂, subst}
+use Rattle.std.proofs.Common.{◌≡◌, ◌≢◌, ◌∙◌, inl, inr, ℕ, zero, suc, ◌≤◌, ◌++◌, ◌&&◌, ◌||◌, nat_le, Bool, true, false, true≢false, List, [], Some, None, is_some, arith, length, refl, sym, ap, ap₂, subst}
 use Rattle.std.proofs.lemmas.Bool.Decides.{nat_tests}
 use Rattle.std.proofs.lemmas.List.Elements.{All-nil}
 use Rattle.vio_num.specs.declared.entry.Entry.{Entry}
@@ -10,7 +10,7 @@ use Rattle.crq_session.specs.declared.handshake.Handshake.{Handshake}
 use Rattle.crq_session.specs.declared.handshake.Handshake.TheVariants.{Down, Up}
 use Rattle.block_server.specs.Doings.{Doing, doing_at}
 use Rattle.block_server.specs.Receipts.{is_down}
-use Rattle.block_server.specs.Talk.{MayAsk, talk_of, to_come}
+use Rattle.block_server.specs.Talk.{MayAsk, talk_of}
 use Rattle.block_server.specs.declared.request.Request.{Request}
 use Rattle.vscsi_client.specs.Ports.{ports}
 use Rattle.vscsi_client.specs.declared.outgoing.Outgoing.{Outgoing}

@@ -3,14 +3,13 @@ use Rattle.std.proofs.Common.{◌≡◌, ◌≢◌, ◌∙◌, ◌⊎◌, inl, i
 use Rattle.std.specs.Borrow.{GName}
 use Rattle.std.specs.Option.{option_map}
 use Rattle.std.proofs.lemmas.Option.{slice_get-map, slice_get_within}
-use Rattle.vio_num.specs.declared.entry.Entry.{Entry}
 use Rattle.vio_num.specs.declared.hypervisor.Moved.{Moved}
 use Rattle.vio_num.specs.declared.hypervisor.Moved.TheVariants as moves
 use Rattle.vio_num.specs.declared.memory.NoMemory.{NoMemory}
 use Rattle.crq_ring.specs.Sessions.{of_session}
 use Rattle.crq_ring.specs.declared.rows.PipeRow.{PipeRow}
-use Rattle.crq_session.specs.Answered.{FindsFull, LosesKept, PutsNone, StillKept, received_now, taken_now}
-use Rattle.crq_session.specs.EndState.{EndPlace, EndState, OnlyPushes, OnlyTakes}
+use Rattle.crq_session.specs.Answered.{received_now, taken_now}
+use Rattle.crq_session.specs.EndState.{EndPlace, EndState, OnlyTakes}
 use Rattle.crq_session.specs.declared.link.PlainLink.{PlainLink}
 use Rattle.crq_session.specs.PlainState.{end_of, side_of}
 use Rattle.tce_window.specs.PortState.{PortState}
@@ -68,19 +67,10 @@ kept_still : (f g : Bool) (a b : List GName) (old new : PlainLink) → f ≡ fal
 kept_still f g a b old new is place kept =
     both_sides (λ d d'. (side_of new d').kept ≡ (side_of old d).kept) f g is (side_is f g a b old new is place) kept
 
--- a client's end at which nothing was found
-client_waits : (a : List GName) (link : PlainLink) → ((end_of a link false).registered ≡ false) ⊎ (received_now (end_of a link false) ≡ taken_now (end_of a link false)) → ClientWaits (link_state link)
-client_waits a link none = none
-
 pub pair_rests : (f g : Bool) (a b : List GName) (old new : Pair) → f ≡ false → EndRests (end_of a old.link f) (end_of b new.link g) → PairRests old new
 pair_rests f g a b old new is rests =
     let still : link_state new.link ≡ link_state old.link = link_still f g a b old.link new.link is rests.stays in
     record { still = still; event = inl (kept_still f g a b old.link new.link is rests.stays.place rests.kept) }
-
-pub pair_waits : (f g : Bool) (a b : List GName) (old new : PlainLink) → f ≡ false → EndRests (end_of a old f) (end_of b new g) → ClientWaits (link_state new)
-pair_waits f g a b old new is rests =
-    let none = subst (λ (d : Bool). ((end_of a old d).registered ≡ false) ⊎ (received_now (end_of a old d) ≡ taken_now (end_of a old d))) is rests.none in
-    subst ClientWaits (sym (link_still f g a b old new is rests.stays)) (client_waits a old none)
 
 -- a client that found nothing
 pub none_taken : (shared os : Bool) (e e' : EndState) (o o' : PortState) (s s' : ClientState) (number : ℕ) → TakesNone s s' (ports shared e os o) (ports shared e' os o') number
@@ -162,55 +152,6 @@ rests_next seats n seat old new there same before here u k less found = at (same
     at : (u ≡ n) ⊎ (u ≢ n) → IsSomeAnd (slice_get new k) ClientWaits
     at (inl e) = here k (some_is seat (sits.Client k) (sym there ∙ (ap (λ m. slice_get seats m) (sym e) ∙ found)))
     at (inr apart) = subst (λ (links : List LinkState). IsSomeAnd (slice_get links k) ClientWaits) (sym same) (before u k (omega (arith, less, apart)) found)
-
--- a client that has put the event that it kept, or lost it, or found its slot full
-pushes_still : (f g : Bool) (a b : List GName) (old new : PlainLink) → f ≡ false → OnlyPushes false (end_of a old f) (end_of b new g)
-    → (end_of b new g).sent ≡ (end_of a old f).sent → link_state new ≡ link_state old
-pushes_still f g a b old new is rest sent =
-    link_still f g a b old new is
-    (record { place = rest.place; session = rest.last_session; registered = rest.registered; sent = sent; taken = rest.taken; partner = rest.counts.same_session refl })
-
-loses_none : (old new : EndState) (kept : Option Entry) → LosesKept false kept old new → new.sent ≡ old.sent
-loses_none old new None none = none.sent
-loses_none old new (Some event) loses = loses.none.sent
-
-none_kept : (f g : Bool) (a b : List GName) (old new : PlainLink) → f ≡ false → (end_of b new g).place ≡ (end_of a old f).place → (end_of b new g).kept ≡ None
-    → (side_of new false).kept ≡ None
-none_kept f g a b old new is place kept = both_sides (λ d d'. (side_of new d').kept ≡ None) f g is (side_is f g a b old new is place) kept
-
-pub nothing_rests : (f g : Bool) (a b : List GName) (old new : Pair) → f ≡ false → OnlyPushes false (end_of a old.link f) (end_of b new.link g)
-    → PutsNone false (end_of a old.link f) (end_of b new.link g) → PairRests old new
-nothing_rests f g a b old new is rest none = record {
-  still = pushes_still f g a b old.link new.link is rest (loses_none (end_of a old.link f) (end_of b new.link g) (end_of a old.link f).kept none.loses);
-  event = inr (none_kept f g a b old.link new.link is rest.place none.kept);
-}
-
-pub nothing_waits : (f g : Bool) (a b : List GName) (old new : Pair) → f ≡ false → OnlyPushes false (end_of a old.link f) (end_of b new.link g)
-    → PutsNone false (end_of a old.link f) (end_of b new.link g) → EventWaits new
-nothing_waits f g a b old new is rest none = inl (none_kept f g a b old.link new.link is rest.place none.kept)
-
-pub kept_rests : (f g : Bool) (a b : List GName) (old new : Pair) (number held : ℕ) → f ≡ false → OnlyPushes false (end_of a old.link f) (end_of b new.link g)
-    → StillKept false (end_of a old.link f) (end_of b new.link g) number held → PairRests old new
-kept_rests f g a b old new number held is rest kept = record {
-  still = pushes_still f g a b old.link new.link is rest kept.full.sent;
-  event = inl (kept_still f g a b old.link new.link is rest.place kept.kept);
-}
-
-full_there : (a b : List GName) (old new : PlainLink) (number held : ℕ) → new.first.queue.session ≡ old.first.queue.session
-    → FindsFull false (end_of a old false) (end_of b new false) number held → IsFull (link_state old).server
-full_there a b old new number held session full = record {
-  registered = full.partner refl;
-  full = subst (λ q. length (of_session q old.first.queue.sent) ≡ length (of_session q old.first.queue.taken) + old.first.queue.slots) session (full.full_slot refl);
-}
-
-pub kept_waits : (f g : Bool) (a b : List GName) (old new : Pair) (number held : ℕ) → f ≡ false → OnlyPushes false (end_of a old.link f) (end_of b new.link g)
-    → StillKept false (end_of a old.link f) (end_of b new.link g) number held → EventWaits new
-kept_waits f g a b old new number held is rest kept =
-    let side = side_is f g a b old.link new.link is rest.place in
-    let session = both_sides (λ d d'. (end_of b new.link d').counts.partner_session ≡ (end_of a old.link d).counts.partner_session) f g is side (rest.counts.same_session refl) in
-    let full = both_sides (λ d d'. FindsFull false (end_of a old.link d) (end_of b new.link d') number held) f g is side kept.full in
-    inr (subst (λ (l : LinkState). IsFull l.server) (sym (pushes_still f g a b old.link new.link is rest kept.full.sent))
-    (full_there a b old.link new.link number held session full))
 
 -- pairs that rest
 event_on : (a b c : Pair) → EventStays a b → EventStays b c → EventStays a c

@@ -1,5 +1,5 @@
 -- Once a run ended, a session of a server unit's queue that is over has its line.
-use Rattle.std.proofs.Common.{◌≡◌, ℕ, ◌<◌, ◌≤◌, true, List, [], Option, Some, IfSome, slice_get, subst, arith, inl}
+use Rattle.std.proofs.Common.{◌≡◌, ℕ, ◌<◌, true, List, [], Option, Some, IfSome, slice_get, subst, arith, inl}
 use Rattle.std.proofs.Math.Logic.{∥∥₁_map}
 use Rattle.rdma_copy.specs.declared.copy.CopyRecord.{CopyRecord}
 use Rattle.vio_num.specs.declared.history.Grant.{Grant}
@@ -7,7 +7,7 @@ use Rattle.vio_num.specs.declared.history.Served.{Served}
 use Rattle.vio_num.specs.declared.names.UnitId.{UnitId}
 use Rattle.crq_session.specs.PlainState.{end_of, side_of}
 use Rattle.block_server.specs.Books.{books_seen}
-use Rattle.block_server.specs.Judged.{AreKept, Judged}
+use Rattle.block_server.specs.Judged.{AreKept}
 use Rattle.block_server.specs.Receipts.{EndedFor}
 use Rattle.block_server.specs.declared.unit.Unit.{Unit}
 use Rattle.vcpu_run.specs.declared.pair.Pair.{Pair}

@@ -1,12 +1,12 @@
 -- What a request that met a closed queue shows stays at its pair.
-use Rattle.std.proofs.Common.{◌≡◌, ◌≢◌, ◌∙◌, ◌⊎◌, inl, inr, ℕ, ◌<◌, ◌≤◌, zero, suc, Bool, true, false, List, [], ◌∷◌, ◌++◌, Option, Some, None, Result, Ok, Err, IfSome, IsSome, MatchBool, length, slice_get, refl, sym, ap, subst, arith}
+use Rattle.std.proofs.Common.{◌≡◌, ◌∙◌, ◌⊎◌, inl, inr, ℕ, ◌<◌, ◌≤◌, Bool, true, false, List, [], ◌∷◌, ◌++◌, Option, Some, None, Result, Ok, Err, IfSome, IsSome, MatchBool, length, slice_get, refl, sym, ap, subst, arith}
 use Rattle.std.specs.Borrow.{GName}
 use Rattle.vio_num.specs.declared.entry.Entry.{Entry}
 use Rattle.vio_num.specs.declared.memory.NoMemory.{NoMemory}
 use Rattle.crq_ring.specs.declared.rows.PipeRow.{PipeRow}
-use Rattle.crq_session.specs.Answered.{Frees, FindsFull, FindsInUse, HoldsUp, LosesKept, MaySend, Opens, Pushes, PutsNone, Sends, Settles, StillKept, TurnsBack}
-use Rattle.crq_session.specs.Answers.{IfClosed, IfDropped, IfHeldUp, IfInUse, IfKept, IfSent, OnFreed, OnNotFreed, OnNotRegistered, OnNotSent, OnNothing, OnOpened, OnPut, OnReached}
-use Rattle.crq_session.specs.EndState.{EndPlace, EndState, OnlyFrees, OnlyPushes, OnlyRegisters, OnlyReserves, OnlySends}
+use Rattle.crq_session.specs.Answered.{Frees, FindsInUse, HoldsUp, LosesKept, MaySend, Opens, Pushes, PutsNone, StillKept}
+use Rattle.crq_session.specs.Answers.{IfHeldUp, IfInUse, IfKept, OnFreed, OnNotFreed, OnNotRegistered, OnNotSent, OnNothing, OnOpened, OnPut, OnReached}
+use Rattle.crq_session.specs.EndState.{EndState, OnlyFrees, OnlyPushes, OnlyReserves, OnlySends}
 use Rattle.crq_session.specs.PlainState.{end_of, side_of, state_of}
 use Rattle.crq_session.specs.declared.answers.EventAnswer.{EventAnswer}
 use Rattle.crq_session.specs.declared.answers.EventAnswer.TheVariants as pushing
@@ -26,7 +26,6 @@ use Rattle.vio_trace.specs.declared.outcome.Outcome.TheVariants as outcomes
 use Rattle.vio_trace.specs.declared.rows.LogRow.{LogRow}
 use Rattle.unit_region.specs.declared.step.Step.{Step}
 use Rattle.unit_region.specs.declared.step.Step.TheVariants as steps
-use Rattle.vscsi_client.specs.State.{ClientState}
 use Rattle.vcpu_run.specs.declared.driver.Driver.{Driver}
 use Rattle.vcpu_run.specs.declared.pair.Pair.{Pair}
 use Rattle.vcpu_run.specs.LinesShow.{requests}

@@ -1,6 +1,6 @@
 -- A line that ended at its client's pair, and says that it met a closed queue, did so once a session of the server unit's queue was over.
-use Rattle.std.proofs.Common.{◌≡◌, ◌≢◌, ◌∙◌, ◌⊎◌, inl, inr, ℕ, ◌≤◌, zero, suc, not, Bool, true, false, List, [], Option, Some, None, Ok, IfSome, IsSomeAnd, length, refl, sym, ap, arith}
-use Rattle.crq_session.specs.PlainState.{end_of, side_of}
+use Rattle.std.proofs.Common.{◌≡◌, ◌∙◌, ◌⊎◌, inl, inr, ℕ, ◌≤◌, zero, suc, not, true, false, List, Option, Some, None, Ok, IfSome, IsSomeAnd, length, refl, sym, ap, arith}
+use Rattle.crq_session.specs.PlainState.{side_of}
 use Rattle.boot_text.specs.declared.verb.Verb.{Verb}
 use Rattle.boot_text.specs.declared.verb.Verb.TheVariants as verbs
 use Rattle.vio_trace.specs.declared.outcome.Outcome.{Outcome}
@@ -15,7 +15,7 @@ use Rattle.vcpu_run.specs.Pairs.{Drives}
 use Rattle.vcpu_run.specs.ScriptTold.{PairIsTold}
 use Rattle.vcpu_run.specs.ShutShown.{HadEnd, PairMeetsShut, PairShut, SaysShut, StepShut}
 use Rattle.vcpu_run.specs.TakenScripts.{IsTaken, PairTaken}
-use Rattle.vcpu_run.specs.Telling.{HasQueue, IsOf, IsTold, is_freed}
+use Rattle.vcpu_run.specs.Telling.{HasQueue, IsOf, IsTold}
 use Rattle.vcpu_run.proofs.Announcing.{both_bools}
 use Rattle.vcpu_run.proofs.ShutKept.{says_shut_more}
 

@@ -9,7 +9,7 @@ use Rattle.vscsi_client.specs.Login.{found_by, login_slot}
 use Rattle.vscsi_client.specs.Ports.{Ports}
 use Rattle.vscsi_client.specs.Sending.{LoggedOut, Submitted, Tasked, WhyNotSubmitted, command_refusal}
 use Rattle.vscsi_client.specs.State.{ClientState, IsLoginSlot, IsStageWithin}
-use Rattle.vscsi_client.specs.Taking.{TakesAs, TakesEntry, TakesLater, taken_by, without_tag}
+use Rattle.vscsi_client.specs.Taking.{TakesAs, TakesEntry, TakesLater, taken_by}
 use Rattle.vscsi_client.specs.Turned.{Site, LoginStep, Registered, Took, TookNone, Looked, Began, Wrote, NotWritten, Put, RanOut, Runs, Steps, Turned, is_dropped, sent_by, sent_stage}
 use Rattle.vscsi_client.specs.declared.TheConstants.{SLOTS}
 use Rattle.vscsi_client.specs.declared.answers.LoginTurn.{LoginTurn}

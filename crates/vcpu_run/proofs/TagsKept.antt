@@ -67,15 +67,6 @@ row_past rs tag past = at (nat_le 1 tag) refl
     at true e = index_past rs (tag - 1) (omega (arith, past))
     at false e = refl
 
--- a row of no command with data-in
-given_inward : (row : Row) → is_inward row ≡ false → is_given row ≡ false
-given_inward (rows.Command dirs.In at len said) none = absurd (cc)
-given_inward (rows.Command dirs.Out at len said) none = refl
-given_inward (rows.Command dirs.Neither at len said) none = refl
-given_inward rows.Login none = refl
-given_inward rows.Logout none = refl
-given_inward rows.Task none = refl
-
 -- nothing is outstanding
 pub fits_none : (rs : List Row) (asked tags inward : List ℕ) (tag : ℕ) → FitsTag rs asked tags inward tag → FitsTag rs [] tags inward tag
 fits_none rs asked tags inward tag fits = record {

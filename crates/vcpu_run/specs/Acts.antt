@@ -3,7 +3,6 @@
 use Rattle.std.specs.Prelude.{◌≡◌, ◌≢◌, ◌⊎◌, ℕ, ◌+◌, ◌≤◌, ◌↔◌, All, Bool, false, IfErr, IfOk, IfSome, IsErrOf, List, [], ◌∷◌, None, Ok, Err, Result, Some, length, ⊤}
 use Rattle.std.specs.List.{sum}
 use Rattle.vio_num.specs.declared.hypervisor.Moved.TheVariants as moves
-use Rattle.vio_num.specs.declared.memory.NoMemory.{NoMemory}
 use Rattle.boot_text.specs.declared.verb.Verb.{Verb}
 use Rattle.boot_text.specs.declared.verb.Verb.TheVariants as verbs
 use Rattle.crq_session.specs.Answered.{FindsInUse, TellsFreed}

@@ -1,10 +1,9 @@
 -- An own client at its pair: it and its server unit talk, or the unit's session is over, or was; and what was laid, noted and told.
-use Rattle.std.specs.Prelude.{◌≡◌, ◌≢◌, ◌⊎◌, ◌+◌, ◌≤◌, ◌==◌, ℕ, All, Bool, true, false, List, [], Option, Some, None, drop, length, slice_get, if◌then◌else◌, ⊤}
+use Rattle.std.specs.Prelude.{◌≡◌, ◌⊎◌, ◌+◌, ◌≤◌, ◌==◌, ℕ, All, Bool, true, false, List, [], Option, Some, None, drop, slice_get, if◌then◌else◌}
 use Rattle.std.specs.List.{list_any}
 use Rattle.boot_text.specs.declared.plan.Line.{Line}
 use Rattle.boot_text.specs.declared.verb.Verb.{Verb}
 use Rattle.boot_text.specs.declared.verb.Verb.TheVariants as verbs
-use Rattle.vio_num.specs.declared.names.UnitId.{UnitId}
 use Rattle.crq_session.specs.EndState.{EndState}
 use Rattle.crq_session.specs.PlainState.{end_of}
 use Rattle.tce_window.specs.PlainPort.{known_of}
@@ -23,14 +22,13 @@ use Rattle.vcpu_run.specs.PlainBorne.{rows_by}
 use Rattle.vcpu_run.specs.PlainClients.{granted_in, grants_of, lines_of, tables_of}
 use Rattle.vcpu_run.specs.PlainPairs.{IsNewBetween, ServerBooks, between_of}
 use Rattle.vcpu_run.specs.PlainScripts.{OfUnit, StandsAt}
-use Rattle.vcpu_run.specs.PlainTalk.{AreEnds, Between, TalksPlainly, grants_one, owes}
+use Rattle.vcpu_run.specs.PlainTalk.{AreEnds, TalksPlainly, grants_one, owes}
 use Rattle.vcpu_run.specs.Replay.{Range, Replay, any_share}
 use Rattle.vcpu_run.specs.Works.{fails}
 use Rattle.vcpu_run.specs.declared.driver.Driver.{Driver}
 use Rattle.vcpu_run.specs.declared.pair.Pair.{Pair}
 use Rattle.vcpu_run.specs.declared.script.Progress.{Progress}
 use Rattle.vcpu_run.specs.declared.script.Progress.TheVariants as progress
-use Rattle.vcpu_run.specs.declared.script.Script.{Script}
 use Rattle.vcpu_run.specs.Machines.{server_id}
 
 -- server unit k of this partition, as its client's pair and the server's books show it

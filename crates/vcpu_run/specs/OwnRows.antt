@@ -1,6 +1,6 @@
 -- What is so, within a turn of a server unit, of its rows and of what it laid in its client's window: the row in service has its answer once the
 -- entry of that is put, and until then the answer stands over the request.
-use Rattle.std.specs.Prelude.{◌≡◌, ◌≢◌, ◌⊎◌, ◌++◌, ◌*◌, ◌<◌, ℕ, All, List, [], ◌∷◌, Option, Some, None, length}
+use Rattle.std.specs.Prelude.{◌≡◌, ◌≢◌, ◌⊎◌, ◌++◌, ◌*◌, ◌<◌, ℕ, All, List, [], ◌∷◌, Some, None, length}
 use Rattle.vio_num.specs.declared.history.Served.{Served}
 use Rattle.page_slots.specs.Stroke.{StrokeValue}
 use Rattle.block_server.specs.Doings.{Doing}

@@ -1,5 +1,5 @@
 -- Own clients in the rounds of a run.
-use Rattle.std.specs.Prelude.{◌≡◌, ◌<◌, ◌≤◌, ℕ, Bool, true, false, IsSomeAnd, List, [], Some, slice_get}
+use Rattle.std.specs.Prelude.{◌≡◌, ◌<◌, ◌≤◌, ℕ, Bool, false, IsSomeAnd, List, [], Some, slice_get}
 use Rattle.vcpu_run.specs.OwnClients.{IsOwnClient}
 use Rattle.vcpu_run.specs.OwnPairs.{IsOwnPair, IsReadyOwnPair}
 use Rattle.vcpu_run.specs.PlainPairs.{ServerBooks}

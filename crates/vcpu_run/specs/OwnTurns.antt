@@ -1,7 +1,6 @@
 -- What lies between a client and its server unit within a turn of the unit, where the client's window may lack rights over the driver's pages:
 -- what is so of a unit's turn until its session ends.
-use Rattle.std.specs.Prelude.{◌≡◌, ◌≢◌, ◌⊎◌, ◌++◌, ℕ, ◌≤◌, All, Bool, true, false, List, [], ◌∷◌, Option, Some, None, drop, length, map, min, ⊤}
-use Rattle.vio_num.specs.declared.history.Served.{Served}
+use Rattle.std.specs.Prelude.{◌≡◌, ◌≢◌, ◌⊎◌, ◌++◌, ℕ, ◌≤◌, All, true, false, List, [], ◌∷◌, Some, None, drop, length, map, min}
 use Rattle.crq_ring.specs.Sessions.{of_session}
 use Rattle.crq_session.specs.Answered.{taken_now}
 use Rattle.crq_session.specs.EndState.{EndState}
@@ -13,7 +12,6 @@ use Rattle.tce_window.specs.declared.answers.Right.TheVariants.{Read}
 use Rattle.block_server.specs.Doings.{Doing, entry_for}
 use Rattle.block_server.specs.Standing.{IsAnswerTo}
 use Rattle.block_server.specs.Talk.{MayWriteAnswer, Suits, order_asked}
-use Rattle.block_server.specs.declared.line.Kept.{Kept}
 use Rattle.block_server.specs.declared.line.Kept.TheVariants as keeps
 use Rattle.block_server.specs.declared.request.Request.{Request}
 use Rattle.block_server.specs.declared.service.Outcome.{Outcome}

@@ -1,5 +1,5 @@
 -- Plain clients at their pairs and in their scripts: how far the lines of each came, as the replay of them says, between turns.
-use Rattle.std.specs.Prelude.{◌≡◌, ◌≢◌, ◌⊎◌, ◌+◌, ◌≤◌, ℕ, Bool, true, false, All, IfOk, IfSome, IsSomeAnd, List, [], ◌∷◌, OnOk, Option, Some, None, Result, length, slice_get, ◌==◌}
+use Rattle.std.specs.Prelude.{◌≡◌, ◌≢◌, ◌⊎◌, ◌+◌, ◌≤◌, ℕ, Bool, true, false, All, IfOk, IfSome, IsSomeAnd, List, [], ◌∷◌, Option, Some, None, Result, length, slice_get, ◌==◌}
 use Rattle.vio_num.specs.declared.hypervisor.Moved.TheVariants.{Quiet}
 use Rattle.vio_num.specs.declared.memory.NoMemory.{NoMemory}
 use Rattle.boot_text.specs.declared.plan.Line.{Line}

@@ -1,5 +1,5 @@
 -- A step of a line of a plain client: what it leaves between the client and its server unit, and how the line's record is that of the replay.
-use Rattle.std.specs.Prelude.{◌≡◌, ◌≢◌, ◌⊎◌, ℕ, ◌+◌, ◌<◌, ◌≤◌, All, Bool, true, false, List, [], ◌∷◌, ◌++◌, Option, Some, None, Result, Ok, Err, IfOk, IfSome, drop, is_some, length, ⊤, if◌then◌else◌}
+use Rattle.std.specs.Prelude.{◌≡◌, ◌≢◌, ◌⊎◌, ℕ, ◌+◌, ◌<◌, ◌≤◌, All, Bool, true, false, List, [], ◌∷◌, ◌++◌, Option, None, Result, IfOk, IfSome, drop, is_some, length, ⊤, if◌then◌else◌}
 use Rattle.std.specs.List.{list_any}
 use Rattle.vio_num.specs.Entry.{is_srp_entry}
 use Rattle.vio_num.specs.declared.entry.Entry.{Entry}
@@ -10,7 +10,7 @@ use Rattle.crq_session.specs.EndState.{EndState, OnlyTakes}
 use Rattle.crq_session.specs.declared.handshake.Handshake.TheVariants.{Waiting}
 use Rattle.tce_window.specs.PortState.{OnlyReads, PortState}
 use Rattle.block_server.specs.Talk.{Word, tag_asked}
-use Rattle.block_server.specs.Talk.Word.{asks, begins, gone}
+use Rattle.block_server.specs.Talk.Word.{asks}
 use Rattle.block_server.specs.declared.unit.Unit.{Unit}
 use Rattle.boot_text.specs.declared.verb.Verb.{Verb}
 use Rattle.boot_text.specs.declared.verb.Verb.TheVariants as verbs

@@ -17,7 +17,6 @@ use Rattle.lan_script.specs.Seats.{seat_at}
 use Rattle.lan_script.specs.Units.{LanValue}
 use Rattle.lan_script.specs.declared.seat.PortSeat.{PortSeat}
 use Rattle.vcpu_run.specs.ClientStrokes.{NoneLay}
-use Rattle.vcpu_run.specs.declared.pair.Pair.{Pair}
 use Rattle.vcpu_run.specs.declared.partition_units.PartitionUnits.{PartitionUnits}
 use Rattle.vcpu_run.specs.declared.unit_seat.Seat.{Seat}
 use Rattle.vcpu_run.specs.declared.unit_seat.Seat.TheVariants as sits
