@@ -165,10 +165,6 @@ adds_ended unit at len done count posted told code step old new tells e h =
     subst (λ (s : PortStep). PostsStep unit (verbs.Post at len count) done s old new) (sym tells)
     (adds_as unit (line_buffers at len (min done count)) (line_buffers at len (min posted count)) (line_buffers at len told) old new (buffers_to at len told (min posted count) e) h)
 
--- before the first buffer of a step
-pub adds_first : (unit : UnitId) (b : List ℕ) (lan : LanValue) → AddsBuffers unit b b lan lan
-adds_first unit b lan = adds_none unit b lan lan refl
-
 -- ---- a call that posts
 
 -- What a call at a port adds to its buffers.

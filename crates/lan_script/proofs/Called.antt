@@ -1,14 +1,10 @@
 -- What calls on a port keep of it, and the codes that they answer.
-use Rattle.std.proofs.Common.{◌≡◌, ℕ, Bool, true, List, [], ◌∷◌, Option, Some, IsSome, arith, length, length-append, map, refl, sym, ◌∙◌, ap, subst, Result}
-use Rattle.std.specs.List.{Contains}
-use Rattle.std.proofs.lemmas.List.Elements.{All-cons, All-contains, All-nil}
+use Rattle.std.proofs.Common.{◌≡◌, ℕ, Bool, List, [], ◌∷◌, Option, Some, IsSome, arith, length, length-append, map, refl, sym, ◌∙◌, ap, subst, Result}
 use Rattle.vio_num.specs.declared.names.Mac.{Mac}
 use Rattle.vio_num.specs.declared.names.UnitId.{UnitId}
 use Rattle.vio_num.specs.declared.memory.NoMemory.{NoMemory}
 use Rattle.vio_num.specs.declared.hypervisor.Hrc.{Hrc}
 use Rattle.vio_num.specs.declared.hypervisor.Hrc.TheVariants.{Success, Busy, Closed, Function, Parameter, NotFound, Dropped, SourceParm, DestParm, Resource}
-use Rattle.hcall_table.specs.Rows.{may_answer}
-use Rattle.hcall_table.specs.declared.hcall.Hcall.{Hcall}
 use Rattle.tce_window.specs.PortState.{PortState}
 use Rattle.lan_buffers.specs.Calls.{IsOpen}
 use Rattle.lan_buffers.specs.Port.{PortValue}
@@ -171,21 +167,3 @@ at_carried ps frames old unit new P same h carried =
     let kept = same h.before h.after h.done in
     subst (λ (l : List Station). CarryAll l ps frames) (sym h.rest)
     (carried_with ps frames unit old h.before h.after h.was kept.unit kept.tally kept.posts carried)
-
--- the codes of these are among those that a row may answer
-pub among3 : (row : Hcall) (a b c x : Hrc) → may_answer row a ≡ true → may_answer row b ≡ true
-    → may_answer row c ≡ true → Contains (a ∷ b ∷ c ∷ []) x → may_answer row x ≡ true
-among3 row a b c x fa fb fc h =
-    All-contains (λ y. may_answer row y ≡ true) (a ∷ b ∷ c ∷ []) x
-    (All-cons (λ y. may_answer row y ≡ true) a (b ∷ c ∷ []) fa (All-cons (λ y. may_answer row y ≡ true) b (c ∷ []) fb (All-cons (λ y. may_answer row y ≡ true) c [] fc (All-nil (λ y. may_answer row y ≡ true))))) h
-
-pub among2 : (row : Hcall) (a b x : Hrc) → may_answer row a ≡ true → may_answer row b ≡ true
-    → Contains (a ∷ b ∷ []) x → may_answer row x ≡ true
-among2 row a b x fa fb h =
-    All-contains (λ y. may_answer row y ≡ true) (a ∷ b ∷ []) x (All-cons (λ y. may_answer row y ≡ true) a (b ∷ []) fa (All-cons (λ y. may_answer row y ≡ true) b [] fb (All-nil (λ y. may_answer row y ≡ true)))) h
-
-pub among4 : (row : Hcall) (a b c d x : Hrc) → may_answer row a ≡ true → may_answer row b ≡ true
-    → may_answer row c ≡ true → may_answer row d ≡ true → Contains (a ∷ b ∷ c ∷ d ∷ []) x → may_answer row x ≡ true
-among4 row a b c d x fa fb fc fd h =
-    All-contains (λ y. may_answer row y ≡ true) (a ∷ b ∷ c ∷ d ∷ []) x
-    (All-cons (λ y. may_answer row y ≡ true) a (b ∷ c ∷ d ∷ []) fa (All-cons (λ y. may_answer row y ≡ true) b (c ∷ d ∷ []) fb (All-cons (λ y. may_answer row y ≡ true) c (d ∷ []) fc (All-cons (λ y. may_answer row y ≡ true) d [] fd (All-nil (λ y. may_answer row y ≡ true)))))) h

@@ -1,11 +1,9 @@
 -- How the counts of posts and frames taken go through the steps of a line.
-use Rattle.std.proofs.Common.{◌≡◌, ◌+◌, ◌<◌, ◌≤◌, ◌^◌, ℕ, arith, true, IfOk, IfSome, IsSome, List, OnOk, Option, Result, Ok, Err, Some, min, refl, sym, ◌∙◌, ap, subst}
+use Rattle.std.proofs.Common.{◌≡◌, ◌+◌, ◌<◌, ◌≤◌, ◌^◌, ℕ, arith, IfOk, IfSome, IsSome, List, OnOk, Option, Result, Ok, Err, Some, min, refl, sym, ◌∙◌, ap, subst}
 use Rattle.vio_num.specs.declared.names.UnitId.{UnitId}
 use Rattle.vio_num.specs.declared.hypervisor.Hrc.{Hrc}
 use Rattle.vio_num.specs.declared.memory.NoMemory.{NoMemory}
 use Rattle.vio_num.specs.declared.hypervisor.Hrc.TheVariants.{Success}
-use Rattle.boot_text.specs.declared.verb.Verb.{Verb}
-use Rattle.boot_text.specs.declared.verb.Verb.TheVariants as verbs
 use Rattle.lan_buffers.specs.Answers.{IfFrame}
 use Rattle.lan_buffers.specs.Calls.{IsOpen}
 use Rattle.lan_buffers.specs.Port.{PortValue}
@@ -14,20 +12,18 @@ use Rattle.lan_switch.specs.declared.answers.LanAnswer.{LanAnswer}
 use Rattle.lan_switch.specs.declared.station.Station.{Station}
 use Rattle.lan_switch.specs.Calls.{Harvests}
 use Rattle.lan_switch.specs.Switch.{AtPort, MadeAt, port_of}
-use Rattle.lan_script.specs.declared.lines.PortStep.{PortStep}
-use Rattle.lan_script.specs.declared.lines.PortStep.TheVariants as steps
-use Rattle.lan_script.specs.PortCounts.{CountsOn, CountsStep, PortCounts, SameCounts, TakesSome, TellsNoCount, counts, counts_after, counts_by, counts_in, posted_on}
+use Rattle.lan_script.specs.PortCounts.{CountsOn, PortCounts, SameCounts, TakesSome, counts, posted_on}
 use Rattle.lan_script.specs.Invariant.{IsLan}
-use Rattle.lan_script.specs.Seats.{is_in_region, seat_at}
+use Rattle.lan_script.specs.Seats.{seat_at}
 use Rattle.lan_script.specs.Taking.{harvested_on, taken_on}
 use Rattle.lan_script.specs.declared.taking.Taken.{Taken}
 use Rattle.lan_script.specs.declared.taking.Taken.TheVariants as found
 use Rattle.lan_script.specs.Units.{IsOpenAt, LanValue}
 use Rattle.lan_script.proofs.Counting.{AddsCounts, HasMore, SameRows, at_counts, at_more}
 use Rattle.lan_script.proofs.Bringing.{begun_at}
-use Rattle.lan_script.proofs.CountedCalls.{HasBegun, harvests_more, no_post}
+use Rattle.lan_script.proofs.CountedCalls.{HasBegun, harvests_more}
 use Rattle.lan_script.proofs.Lans.{port_there}
-use Rattle.lan_script.proofs.PortsGrow.{at_grows, grow_on, grow_still}
+use Rattle.lan_script.proofs.PortsGrow.{at_grows, grow_on}
 
 pub same_on : (old mid new : LanValue) → SameCounts old mid → SameCounts mid new → SameCounts old new
 same_on old mid new a b = record { same = λ unit. b.same unit ∙ a.same unit; grows = grow_on old mid new a.grows b.grows }
@@ -35,10 +31,6 @@ same_on old mid new a b = record { same = λ unit. b.same unit ∙ a.same unit; 
 pub same_then : {X E : Type 0} (r : Result X E) (old mid new : LanValue) → SameCounts old mid → OnOk r (SameCounts mid new) → OnOk r (SameCounts old new)
 same_then (Ok x) old mid new a b = same_on old mid new a b
 same_then (Err e) old mid new a b = tt
-
--- where no port was touched
-pub still_counts : (old new : LanValue) → new.stations ≡ old.stations → SameCounts old new
-still_counts old new e = record { same = λ unit. ap (λ l. counts_in unit (port_of l unit)) e; grows = grow_still old new e }
 
 pub counts_same : (unit : UnitId) (before : PortCounts) (old new : LanValue) → SameCounts old new → CountsOn unit before before old new
 counts_same unit before old new same = record {
@@ -80,23 +72,6 @@ takes_more unit n old mid new (m, h) k = (
   counts_on unit (counts 0 0) (counts 0 m) (counts 0 (m + n)) old mid new h
       (counts_more unit (counts 0 0) (counts 0 n) (counts 0 m) (counts 0 (m + n)) mid new k (omega arith) (omega arith)),
 )
-
--- a step of a line that posts and takes nothing
-pub still_step : (unit : UnitId) (verb : Verb) (done : ℕ) (step : PortStep) (old new : LanValue) → ((d : ℕ) → counts_by verb d ≡ counts 0 0)
-    → TellsNoCount step → SameCounts old new → CountsStep unit verb done step old new
-still_step unit verb done step old new none tells same =
-    subst (λ (a : PortCounts). CountsOn unit a (counts_after verb step) old new) (sym (none done))
-    (subst (λ (b : PortCounts). CountsOn unit (counts 0 0) b old new) (sym (by step tells)) (counts_same unit (counts 0 0) old new same))
-  where
-    by : (s : PortStep) → TellsNoCount s → counts_after verb s ≡ counts 0 0
-    by (steps.Ends outcome) is = is
-    by (steps.Waits did d) is = none d
-
--- a line in the unit's region is none that posts or takes
-pub region_still : (verb : Verb) → is_in_region verb ≡ true → (d : ℕ) → counts_by verb d ≡ counts 0 0
-region_still (verbs.Post at len count) e d = absurd (cc (e))
-region_still (verbs.Take count) e d = absurd (cc (e))
-region_still verb e d = refl
 
 -- a call at the unit's port that keeps its rows
 pub port_counts : (lan now : LanValue) (unit : UnitId) (ss : List Station) (P : PortValue → PortValue → Type 0) → lan ≡ now
@@ -158,13 +133,6 @@ takes_one lan now old new unit answer taken same is before found short opened h 
         subst (λ (o : Option PortValue). IfSome o IsOpen) was
         (subst (λ (l : LanValue). IfSome (port_of l.stations unit) IsOpen) (sym same) opened)
 
--- a call behind others
-pub behind_on : (unit : UnitId) (a b more : PortCounts) (old mid new : LanValue) → CountsOn unit a b old mid → CountsOn unit (counts 0 0) more mid new
-    → CountsOn unit a (counts (b.posts + more.posts) (b.taken + more.taken)) old new
-behind_on unit a b more old mid new h k =
-    counts_on unit a b (counts (b.posts + more.posts) (b.taken + more.taken)) old mid new h
-    (counts_more unit (counts 0 0) more b (counts (b.posts + more.posts) (b.taken + more.taken)) mid new k (omega arith) (omega arith))
-
 -- a buffer more of a line that posts, which has not posted all yet
 pub posted_more : (unit : UnitId) (done count posted : ℕ) (code : Hrc) (old mid new : LanValue) → code ≡ Success → posted < count
     → CountsOn unit (counts (min done count) 0) (counts (min posted count) 0) old mid → CountsOn unit (counts 0 0) (posted_on code) mid new
@@ -175,22 +143,10 @@ posted_more unit done count posted code old mid new is less h k =
     (counts_more unit (counts 0 0) (counts 1 0) (counts (min posted count) 0) (counts (min (posted + 1) count) 0) mid new
     (subst (λ (more : PortCounts). CountsOn unit (counts 0 0) more mid new) one k) (omega (arith, less)) refl)
 
--- a call that was refused
-pub posted_none : (unit : UnitId) (a b : PortCounts) (code : Hrc) (old mid new : LanValue) → (code ≡ Success → ⊥) → CountsOn unit a b old mid
-    → CountsOn unit (counts 0 0) (posted_on code) mid new → CountsOn unit a b old new
-posted_none unit a b code old mid new not h k =
-    counts_on unit a b b old mid new h
-    (counts_more unit (counts 0 0) (counts 0 0) b b mid new
-    (subst (λ (more : PortCounts). CountsOn unit (counts 0 0) more mid new) (no_post code not) k) (omega arith) (omega arith))
-
 -- where a line has posted all
 pub posted_all : (unit : UnitId) (a : PortCounts) (count posted : ℕ) (old new : LanValue) → count ≤ posted → CountsOn unit a (counts (min posted count) 0) old new
     → CountsOn unit a (counts count 0) old new
 posted_all unit a count posted old new all h = counts_more unit a (counts (min posted count) 0) a (counts count 0) old new h (omega (arith, all)) refl
-
-pub posted_some : (unit : UnitId) (a : PortCounts) (count posted : ℕ) (old new : LanValue) → posted < count → CountsOn unit a (counts (min posted count) 0) old new
-    → CountsOn unit a (counts posted 0) old new
-posted_some unit a count posted old new less h = counts_more unit a (counts (min posted count) 0) a (counts posted 0) old new h (omega (arith, less)) refl
 
 -- a frame more of a line that takes them
 pub taken_more : (unit : UnitId) (a : PortCounts) (done more : ℕ) (taken : PortCounts) (old mid new : LanValue) → CountsOn unit a (counts 0 done) old mid

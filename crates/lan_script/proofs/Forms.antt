@@ -10,7 +10,7 @@ use Rattle.hcall_table.specs.declared.hcall.Hcall.{Hcall}
 use Rattle.hcall_table.specs.declared.hcall.Hcall.TheVariants as rows
 use Rattle.vio_trace.specs.declared.outcome.Outcome.{Outcome}
 use Rattle.vio_trace.specs.declared.outcome.Outcome.TheVariants as outcomes
-use Rattle.lan_script.specs.LineForms.{CodesAs, HasForm, IsCodeOf, IsSendEnd, SendForm, StepForm}
+use Rattle.lan_script.specs.LineForms.{CodesAs, HasForm, IsCodeOf, SendForm, StepForm}
 use Rattle.lan_script.specs.Seats.{is_in_region}
 use Rattle.lan_script.specs.Taking.{TakesUpTo}
 use Rattle.lan_script.specs.declared.lines.PortStep.{PortStep}
@@ -21,10 +21,6 @@ pub coded_form : (verb : Verb) (row : Hcall) (code : Hrc) (step : PortStep) → 
     → may_answer row code ≡ true → CodesAs code step → StepForm verb step
 coded_form verb row code (steps.Ends outcome) has may is = has outcome (subst (λ (o : Outcome). IsCodeOf row o) (sym is) may)
 coded_form verb row code (steps.Waits did done) has may is = tt
-
-pub coded_send : (code : Hrc) (step : PortStep) → may_answer rows.SendLogicalLan code ≡ true → CodesAs code step → SendForm step
-coded_send code (steps.Ends outcome) may is = subst (λ (o : Outcome). IsSendEnd o) (sym is) may
-coded_send code (steps.Waits did done) may is = tt
 
 -- one that sends
 pub send_form : (to : Mac) (len seed at : ℕ) (step : PortStep) → SendForm step → StepForm (verbs.Send to len seed at) step

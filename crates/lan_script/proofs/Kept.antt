@@ -1,5 +1,5 @@
 -- A frame that was owed is kept.
-use Rattle.std.proofs.Common.{◌≡◌, ◌+◌, ◌<◌, ℕ, zero, suc, Bool, true, false, List, [], ◌∷◌, ◌++◌, Option, Some, None, IfSome, length, map, set, get_or, slice_get, sym, ◌∙◌, ap, subst}
+use Rattle.std.proofs.Common.{◌≡◌, ◌+◌, ◌<◌, ℕ, zero, suc, Bool, true, false, List, [], ◌∷◌, ◌++◌, Option, Some, IfSome, length, map, set, get_or, slice_get, sym, ◌∙◌, ap, subst}
 use Rattle.vio_num.specs.declared.names.UnitId.{UnitId}
 use Rattle.lan_switch.specs.declared.answers.SendRecord.{SendRecord}
 use Rattle.vio_trace.specs.declared.lan_rows.FrameRow.{FrameRow}
@@ -41,22 +41,6 @@ keep_frame lan now unit r n row place rows same is owed frame row_is at here =
           (ap (λ x. with_sent unit r x lan.seats lan.frames) frame ∙ ap (λ (f : FrameRow). with_frame unit f lan.seats lan.frames) (sym row_is)
           ∙ set_frame unit row lan.seats lan.frames rows (frames_long true lan.seats o.keys lan.frames o.kept) (ap (λ p. slice_get lan.frames p) (sym at) ∙ here)
           ∙ ap (λ p. set lan.frames p (rows ++ row ∷ [])) (sym at)) o.carried;
-    }
-
-pub keep_none : (lan now : LanValue) (unit : UnitId) (r : SendRecord) → lan ≡ now → IsLan lan → Owes now unit r → r.frame ≡ None
-    → IsLan (record lan { whole = true })
-keep_none lan now unit r same is owed frame =
-    let o : Owes lan unit r = subst (λ (l : LanValue). Owes l unit r) (sym same) owed in
-    record {
-      few = is.few;
-      ascending = is.ascending;
-      sized = is.sized;
-      named = is.named;
-      ports = subst (λ (keys : List PortKey). HavePorts true lan.seats keys lan.frames) (sym (o.counts ∙ ap (λ x. with_count unit x o.keys) frame)) o.kept;
-      windows = is.windows;
-      begun = is.begun;
-      balanced = λ _. subst (λ (l : List (List FrameRow)). IsBalanced lan.seats lan.stations l) (ap (λ x. with_sent unit r x lan.seats lan.frames) frame) o.balanced;
-      carried = λ _. subst (λ (l : List (List FrameRow)). CarryAll lan.stations lan.places l) (ap (λ x. with_sent unit r x lan.seats lan.frames) frame) o.carried;
     }
 
 -- while a frame is owed nothing is said of the frames

@@ -2,8 +2,6 @@
 use Rattle.std.proofs.Common.{◌≡◌, ◌≤◌, ◌<◌, ℕ, suc, arith, Bool, true, false, List, [], ◌∷◌, Option, Some, None, IfSome, IfOk, OnOk, OnErr, Result, Ok, Err, IsSome, length, map, option_map, refl, sym, ◌∙◌, ap, subst}
 use Rattle.vio_num.specs.declared.names.UnitId.{UnitId}
 use Rattle.vio_num.specs.declared.memory.NoMemory.{NoMemory}
-use Rattle.hcall_table.specs.Rows.{may_answer}
-use Rattle.hcall_table.specs.declared.hcall.Hcall.TheVariants as rows
 use Rattle.tce_window.specs.PlainPort.{known_of}
 use Rattle.tce_window.specs.PortState.{PortPlace, PortState}
 use Rattle.tce_window.specs.Window.{WindowValue}
@@ -33,7 +31,7 @@ use Rattle.lan_script.proofs.CarriedSent.{IsLending, carried_sent, parts_few}
 use Rattle.lan_script.proofs.Keeping.{frames_long, short_ports}
 use Rattle.lan_script.proofs.Keys.{PortOf, WindowOf, lan_ports, lan_windows, port_of_seat, window_keys_with, window_of}
 use Rattle.lan_script.proofs.Lent.{all_free, away_back, keys_back, shape_units, units_of, with_keys}
-use Rattle.lan_script.proofs.Offering.{keys_failing, owes, sent_may, untouched, untouched_failing}
+use Rattle.lan_script.proofs.Offering.{keys_failing, owes, untouched, untouched_failing}
 use Rattle.lan_script.proofs.Placing.{by_bool, has_place, length_with, none_some, one_unit, place_head, place_tail, place_with, same_some, window_beside, window_with, with_twice}
 
 -- what is there
@@ -328,13 +326,6 @@ owes_ok seats ss ss' ps ps₁ ps₂ ps₃ own own' frames unit parts Found (Ok m
       carried = carried_sent seats unit parts ps ps₁ ps₂ ps₃ own own' ss ss' frames Found made lends sends (omega (arith, few, parts_few parts)) sent carried;
     }
 owes_ok seats ss ss' ps ps₁ ps₂ ps₃ own own' frames unit parts Found (Err memory) sends carried lends few sent = tt
-
-pub may_ok : (ss ss' : List Station) (unit : UnitId) (parts : List ℕ) (is_shared : Bool) (Found : ℕ → ℕ → Type 0) (window window' : PortState)
-    (windows : LanWindows) (r : Result SendRecord NoMemory) → IfOk r (IsSent ss ss' unit parts is_shared Found window window' windows)
-    → IfOk r (λ made. may_answer rows.SendLogicalLan made.code ≡ true)
-may_ok ss ss' unit parts is_shared Found window window' windows (Ok made) sent =
-    sent_may ss ss' unit parts is_shared Found window window' windows made sent
-may_ok ss ss' unit parts is_shared Found window window' windows (Err memory) sent = tt
 
 -- where the frames are whole
 pub whole_carried : (lan now : LanValue) → lan ≡ now → IsLan lan → now.whole ≡ true → CarryAll lan.stations lan.places lan.frames

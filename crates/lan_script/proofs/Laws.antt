@@ -10,14 +10,13 @@ use Rattle.vio_trace.specs.declared.lan_rows.FrameRow.{FrameRow}
 use Rattle.vio_trace.specs.declared.lan_rows.PostRow.{PostRow}
 use Rattle.lan_script.specs.Carried.{FramesAreCarried, IsNamedPage, named_on}
 use Rattle.lan_script.specs.declared.seat.PortSeat.{PortSeat}
-use Rattle.lan_script.specs.Invariant.{IsLan, side_in}
+use Rattle.lan_script.specs.Invariant.{side_in}
 use Rattle.lan_script.specs.PortLaw.{AreOfSeats}
 use Rattle.lan_script.specs.Seats.{seat_at}
 use Rattle.lan_script.specs.Units.{LanValue, window_at}
 use Rattle.lan_script.proofs.Blocks.{all_from_each}
 use Rattle.lan_script.proofs.CarriedOn.{side_there}
 use Rattle.lan_script.proofs.Carrying.{carried_on, read_on}
-use Rattle.lan_script.proofs.Keys.{WindowOf, window_of}
 use Rattle.lan_script.proofs.Order.{Each, each_weaker}
 pub use Rattle.lan_script.proofs.Blocks.{self}
 pub use Rattle.lan_script.proofs.Buffering.{grown_posted, posted_still, same_posted}
@@ -30,11 +29,6 @@ pub use Rattle.lan_script.proofs.RegionsGrow.{not_told, region_same, region_then
 pub use Rattle.lan_script.proofs.ReplayedLines.{names_own}
 pub use Rattle.lan_script.proofs.Resting.{on_open, ports_on, still_taken}
 pub use Rattle.lan_script.proofs.Targeting.{named_at, spent_on}
-
--- Each seat has its window: of its pages, and with nothing held.
-pub seat_has_window : (lan : LanValue) (unit : UnitId) (seat : PortSeat) → IsLan lan → seat_at lan.seats unit ≡ Some seat
-    → WindowOf (window_at lan unit) seat
-seat_has_window lan unit seat is at = window_of unit lan.places lan.seats seat is.windows at
 
 -- A unit's window as a side of a copy.
 pub window_side : (lan : LanValue) (unit : UnitId) (window : WindowValue) → window_at lan unit ≡ Some window

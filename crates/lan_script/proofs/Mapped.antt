@@ -1,5 +1,5 @@
 -- What a call on a unit's window leaves of the map of windows.
-use Rattle.std.proofs.Common.{◌≡◌, ℕ, ◌<◌, zero, suc, get_or, List, [], ◌∷◌, Option, Some, None, IsSome, IsSomeAnd, All, length, slice_get, set, refl, sym, ◌∙◌, ap, subst, arith}
+use Rattle.std.proofs.Common.{◌≡◌, ℕ, ◌<◌, zero, suc, get_or, List, [], ◌∷◌, Option, Some, None, IsSome, All, length, slice_get, set, refl, sym, ◌∙◌, ap, subst, arith}
 use Rattle.std.proofs.lemmas.List.Elements.{All-get_or, All-set}
 use Rattle.vio_num.specs.declared.names.UnitId.{UnitId}
 use Rattle.tce_window.specs.PlainPort.{known_of}
@@ -95,11 +95,6 @@ pub all_own : (ss : List Place) (p : ℕ) (s : Place) (o : Option WindowValue) (
 all_own ss p s o P h all less is same =
     All-set IsOwn ss p (record s { window = o })
     (still_own s o P h (subst IsOwn (sym is) (All-get_or IsOwn ss p s less all)) same) all
-
--- the window at a unit's place, of which something is so
-pub so_there : (unit : UnitId) (old : List Place) (place : ℕ) (s : Place) (P : WindowValue → Type 0) → place ≡ place_in unit old
-    → slice_get old place ≡ Some s → IsSomeAnd (window_in unit old) P → IsSomeAnd s.window P
-so_there unit old place s P at shown so = subst (λ (x : Option WindowValue). IsSomeAnd x P) (there unit old place s at shown) so
 
 -- the same from what a call tells
 pub turns_there : (unit : UnitId) (ss now : List Place) (place : ℕ) (s : Place) (o : Option WindowValue) (P : WindowValue → WindowValue → Type 0)

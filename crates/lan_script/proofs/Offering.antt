@@ -1,19 +1,10 @@
 -- What a switch makes of a frame, told of the units of a run.
 use Rattle.std.proofs.Common.{◌≡◌, ◌+◌, inl, inr, ℕ, zero, suc, Bool, true, false, List, [], ◌∷◌, Option, Some, None, IfSome, take, drop, map, if◌then◌else◌, refl, sym, ◌∙◌, ap, subst}
 use Rattle.vio_num.specs.declared.names.UnitId.{UnitId}
-use Rattle.vio_num.specs.declared.hypervisor.Hrc.{Hrc}
-use Rattle.vio_num.specs.declared.hypervisor.Hrc.TheVariants.{Success, Parameter}
-use Rattle.hcall_table.specs.Rows.{may_answer}
-use Rattle.hcall_table.specs.declared.hcall.Hcall.TheVariants as rows
-use Rattle.tce_window.specs.declared.answers.HoldFault.{HoldFault}
-use Rattle.tce_window.specs.declared.answers.HoldFault.TheVariants.{Past, NotGranted, InUse}
 use Rattle.tce_window.specs.PortState.{PortState}
-use Rattle.lan_buffers.specs.declared.answers.Deliver.{Deliver}
-use Rattle.lan_buffers.specs.declared.answers.Deliver.TheVariants as sent
-use Rattle.lan_switch.specs.declared.answers.Offer.{Offer}
 use Rattle.lan_switch.specs.declared.answers.SendRecord.{SendRecord}
 use Rattle.lan_switch.specs.declared.station.Station.{Station}
-use Rattle.lan_switch.specs.Sending.{FailsToSend, IsSent, LanWindows, OffersFrame, SaysFrame, code_after, frames_of, is_numbered, next_number, one_code as sent_code, source_code, with_frames}
+use Rattle.lan_switch.specs.Sending.{FailsToSend, IsSent, LanWindows, OffersFrame, SaysFrame, frames_of, is_numbered, next_number, with_frames}
 use Rattle.lan_switch.specs.Switch.{same_unit, station_of, unit_of}
 use Rattle.vio_trace.specs.declared.lan_rows.FrameRow.{FrameRow}
 use Rattle.lan_script.specs.declared.seat.PortSeat.{PortSeat}
@@ -152,39 +143,3 @@ keys_failing ss ss' unit parts window window' windows (inr h) =
 
         tails : (a b : PortKey) (xs ys : List PortKey) → a ∷ xs ≡ b ∷ ys → xs ≡ ys
         tails a b xs ys g = cc (g)
-
--- the code of a send is one of its row
-answer_code : (answer : Deliver) → may_answer rows.SendLogicalLan (code_after answer) ≡ true
-answer_code (sent.Done post) = refl
-answer_code (sent.Ungranted post fault) = refl
-answer_code sent.NoSize = refl
-answer_code sent.NoBuffer = refl
-answer_code (sent.Turn word) = refl
-answer_code (sent.InUse page word) = refl
-answer_code (sent.Closed control) = refl
-answer_code sent.NoMemory = refl
-
-one_code_may : (offers : List Offer) → may_answer rows.SendLogicalLan (sent_code offers) ≡ true
-one_code_may [] = refl
-one_code_may (offer ∷ offers) = answer_code offer.answer
-
-source_may : (fault : HoldFault) → may_answer rows.SendLogicalLan (source_code fault) ≡ true
-source_may (Past entry) = refl
-source_may (NotGranted entry version tce) = refl
-source_may (InUse page word) = refl
-
-code_may : (x y : Hrc) → x ≡ y → may_answer rows.SendLogicalLan y ≡ true → may_answer rows.SendLogicalLan x ≡ true
-code_may x y e f = subst (λ (z : Hrc). may_answer rows.SendLogicalLan z ≡ true) (sym e) f
-
-pub sent_may : (ss ss' : List Station) (unit : UnitId) (parts : List ℕ) (is_shared : Bool) (Found : ℕ → ℕ → Type 0) (window window' : PortState)
-    (windows : LanWindows) (r : SendRecord) → IsSent ss ss' unit parts is_shared Found window window' windows r
-    → may_answer rows.SendLogicalLan r.code ≡ true
-sent_may ss ss' unit parts is_shared Found window window' windows r (inl (h, beside)) = code_may r.code Parameter h.says.code_is refl
-sent_may ss ss' unit parts is_shared Found window window' windows r (inr (inl (h, beside))) =
-    code_may r.code (source_code h.fault) h.says.code_is (source_may h.fault)
-sent_may ss ss' unit parts is_shared Found window window' windows r (inr (inr h)) =
-    code_may r.code _ h.answered.code (by h.answered.out.all)
-  where
-    by : (all : Bool) → may_answer rows.SendLogicalLan (if all then Success else sent_code r.offers.items) ≡ true
-    by true = refl
-    by false = one_code_may r.offers.items

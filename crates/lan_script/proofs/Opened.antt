@@ -29,10 +29,6 @@ pub plan_units : (seats : List PortSeat) → map (λ (plan : PortPlan). plan.uni
 plan_units [] = refl
 plan_units (s ∷ seats) = ap (λ l. s.unit ∷ l) (plan_units seats)
 
-pub plan_long : (seats : List PortSeat) → length (map plan_of seats) ≡ length seats
-plan_long [] = refl
-plan_long (s ∷ seats) = ap suc (plan_long seats)
-
 pub plan_slots : (seats : List PortSeat) → All IsSizedSeat seats → All (λ (plan : PortPlan). (1 ≤ plan.slots) × (plan.slots ≤ 1024)) (map plan_of seats)
 plan_slots seats sized =
     All-map (λ (plan : PortPlan). (1 ≤ plan.slots) × (plan.slots ≤ 1024)) plan_of seats

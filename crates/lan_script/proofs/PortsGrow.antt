@@ -85,9 +85,6 @@ grows_then (Some a) (Some b) (Some d) h k = record {
 pub grow_on : (old mid new : LanValue) → AllGrow old mid → AllGrow mid new → AllGrow old new
 grow_on old mid new a b unit = grows_then (port_of old.stations unit) (port_of mid.stations unit) (port_of new.stations unit) (a unit) (b unit)
 
-pub grow_still : (old new : LanValue) → new.stations ≡ old.stations → AllGrow old new
-grow_still old new e unit = grows_as (port_of old.stations unit) (port_of new.stations unit) (ap (λ l. port_of l unit) e)
-
 -- a call at a port
 pub at_grows : (old : List Station) (unit : UnitId) (new : List Station) (P : PortValue → PortValue → Type 0) (h : AtPort old unit new P)
     → h.after.unit ≡ h.before.unit → PortGrows h.before h.after → (v : UnitId) → Grows (port_of old v) (port_of new v)

@@ -17,7 +17,7 @@ use Rattle.lan_buffers.specs.declared.settings.Settings.{Settings}
 use Rattle.lan_switch.specs.declared.answers.LanAnswer.{LanAnswer}
 use Rattle.lan_switch.specs.Calls.{ChangesMac, Frees, Harvests, IsOwnAddress, IsRegistration, Registers, Reserves}
 use Rattle.lan_script.specs.declared.seat.PortSeat.{PortSeat}
-use Rattle.lan_script.specs.PortReplay.{CloseSays, Codes, MacSays, OpenSays, PortReplay}
+use Rattle.lan_script.specs.PortReplay.{CloseSays, MacSays, OpenSays}
 use Rattle.lan_script.specs.Replayed.{IsOpening, replay_of}
 use Rattle.lan_script.proofs.Replaying.{Moves, Stays, replay_with, stays_equal, stays_with}
 use Rattle.lan_script.proofs.Tallies.{shut}
@@ -39,10 +39,6 @@ one_of3 a b d x h =
 
 pub is_on : (settings : Option Settings) (shown : Settings) → settings ≡ Some shown → IsSome settings
 is_on settings shown e = subst (λ (o : Option Settings). IsSome o) (sym e) refl
-
--- a line that ends with a code, whatever is known of it
-pub codes_as : (code code' : Hrc) (left old new : PortReplay) → code ≡ code' → new ≡ left → Codes code' left (outcomes.Code code) new
-codes_as code code' left old new e is = record { outcome_is = ap (λ (x : Hrc). outcomes.Code x) e; left_is = is }
 
 -- a session that begins has no post
 begun_replay : (before after : PortValue) (mac : Mac) (n : List (List ℕ)) → BeginsSession before mac after

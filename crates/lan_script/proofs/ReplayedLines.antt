@@ -1,5 +1,5 @@
 -- What steps of lines say in the replay of their port.
-use Rattle.std.proofs.Common.{◌≡◌, ◌+◌, ◌-◌, ◌*◌, ◌/◌, ◌%◌, ◌≤◌, ◌<◌, ◌++◌, get_or, length, slice_index, take, inl, inr, ℕ, arith, All, true, false, IsSome, List, [], ◌∷◌, min, Option, Some, None, refl, sym, ◌∙◌, ap, subst}
+use Rattle.std.proofs.Common.{◌≡◌, ◌+◌, ◌-◌, ◌*◌, ◌/◌, ◌%◌, ◌≤◌, ◌<◌, ◌++◌, get_or, length, slice_index, take, inr, ℕ, arith, All, true, false, IsSome, List, [], ◌∷◌, min, Option, Some, None, refl, sym, ◌∙◌, ap, subst}
 use Rattle.std.proofs.lemmas.List.{append_assoc, append_cancel_left}
 use Rattle.std.proofs.lemmas.List.Elements.{All-cons, All-nil}
 use Rattle.vio_num.specs.declared.hypervisor.Hrc.{Hrc}
@@ -19,12 +19,12 @@ use Rattle.lan_switch.specs.Calls.{IsOwnAddress}
 use Rattle.lan_script.specs.declared.lines.PortStep.{PortStep}
 use Rattle.lan_script.specs.declared.lines.PortStep.TheVariants as steps
 use Rattle.lan_script.specs.declared.seat.PortSeat.{PortSeat}
-use Rattle.lan_script.specs.PortReplay.{CloseSays, FitsAll, IsBufferLen, IsOn, LineSays, MacSays, MulticastSays, OpenSays, PortReplay, SendsFrom, SendsNext}
-use Rattle.lan_script.specs.Replayed.{AddSays, ClosesAt, GoesOut, GrantsAll, HasPosted, IsOnePart, IsReplayable, MayGoOut, OpensAt, Replays, ReplaysOn, SameBeside, SameReplays, SendsFrame, SendsShown, SentSays, Shows, StepSays, is_replayed, replay_at}
+use Rattle.lan_script.specs.PortReplay.{FitsAll, IsBufferLen, IsOn, LineSays, OpenSays, PortReplay, SendsFrom, SendsNext}
+use Rattle.lan_script.specs.Replayed.{AddSays, GoesOut, GrantsAll, HasPosted, IsOnePart, IsReplayable, MayGoOut, OpensAt, Replays, ReplaysOn, SameBeside, SameReplays, SendsFrame, SendsShown, SentSays, Shows, StepSays, is_replayed, replay_at}
 use Rattle.lan_script.specs.LineFrame.{line_frame}
 use Rattle.lan_script.specs.LineSays.{SaysSent}
 use Rattle.lan_switch.specs.Switch.{same_unit}
-use Rattle.lan_script.specs.Seats.{is_in_region, seat_at}
+use Rattle.lan_script.specs.Seats.{seat_at}
 use Rattle.lan_script.specs.Units.{LanValue}
 use Rattle.lan_script.specs.Values.{NamesOwn}
 use Rattle.lan_script.specs.PortCounts.{CountsOn, PortCounts, counts, counts_after, posted_on}
@@ -42,20 +42,6 @@ open_ends : (mac : Mac) (o : Option Settings) (code : Hrc) (a b : PortReplay) �
 open_ends mac None code a b h e = cc (h.outcome_is, e)
 open_ends mac (Some settings) code a b h e = cc (h.outcome_is, e)
 
-close_ends : (o : Option Settings) (code : Hrc) (a b : PortReplay) → CloseSays o (outcomes.Code code) a b → code ≡ Busy → ⊥
-close_ends None code a b h e = cc (h.outcome_is, e)
-close_ends (Some settings) code a b h e = cc (h.outcome_is, e)
-
-mac_ends : (mac : Mac) (code : Hrc) (a b : PortReplay) → MacSays mac (outcomes.Code code) a b → code ≡ Busy → ⊥
-mac_ends mac code a b (inl h) e = cc (h.1.outcome_is, e)
-mac_ends mac code a b (inr h) e = cc (h.1.outcome_is, e)
-
-multicast_ends : (control : ℕ) (mac : Mac) (code : Hrc) (a b : PortReplay) → MulticastSays control mac (outcomes.Code code) a b → code ≡ Busy → ⊥
-multicast_ends control mac code a b (inl h) e = cc (h.1.outcome_is, e)
-multicast_ends control mac code a b (inr (may, inl h)) e = cc (h.1.outcome_is, e)
-multicast_ends control mac code a b (inr (may, inr (inl h))) e = cc (h.1.outcome_is, e)
-multicast_ends control mac code a b (inr (may, inr (inr h))) e = cc (h.codes.outcome_is, e)
-
 -- a step that ends with a code, unless another is at work
 abbrev pub IsCoded : Hrc → PortStep → Type 0
 IsCoded code step = (code ≡ Busy → ⊥) → step ≡ steps.Ends (outcomes.Code code)
@@ -72,24 +58,6 @@ open_line unit own queue code step old new at valid long coded h seat is = by (s
         (ends_on unit own verbs.Open step (outcomes.Code code) old new
         (coded (open_ends own.mac (replay_at old unit).settings code (replay_at old unit) (replay_at new unit) opens.says)) opens)
 
-pub close_line : (unit : UnitId) (code : Hrc) (step : PortStep) (old new : LanValue) → IsCoded code step → ClosesAt unit code old new
-    → Replays unit verbs.Close step old new
-close_line unit code step old new coded h seat is =
-    ends_on unit seat verbs.Close step (outcomes.Code code) old new
-    (coded (close_ends (replay_at old unit).settings code (replay_at old unit) (replay_at new unit) h.says)) h
-
-pub mac_line : (unit : UnitId) (mac : Mac) (code : Hrc) (step : PortStep) (old new : LanValue) → IsCoded code step
-    → ReplaysOn unit (MacSays mac (outcomes.Code code)) old new → Replays unit (verbs.ChangeMac mac) step old new
-mac_line unit mac code step old new coded h seat is =
-    ends_on unit seat (verbs.ChangeMac mac) step (outcomes.Code code) old new
-    (coded (mac_ends mac code (replay_at old unit) (replay_at new unit) h.says)) h
-
-pub multicast_line : (unit : UnitId) (control : ℕ) (mac : Mac) (code : Hrc) (step : PortStep) (old new : LanValue) → IsCoded code step
-    → ReplaysOn unit (MulticastSays control mac (outcomes.Code code)) old new → Replays unit (verbs.Multicast control mac) step old new
-multicast_line unit control mac code step old new coded h seat is =
-    ends_on unit seat (verbs.Multicast control mac) step (outcomes.Code code) old new
-    (coded (multicast_ends control mac code (replay_at old unit) (replay_at new unit) h.says)) h
-
 -- a line that is none of the replay leaves the port where it stood
 says_none : (seat : PortSeat) (verb : Verb) (step : PortStep) (a b : PortReplay) → is_replayed verb ≡ false → b ≡ a → StepSays seat verb step a b
 says_none seat verb (steps.Waits did done) a b none same = (none, same)
@@ -103,22 +71,6 @@ says_none seat verb (steps.Ends outcome) a b none same = by verb none
     by (verbs.Post at len count) e = absurd (cc (e))
     by (verbs.Send mac len seed at) e = absurd (cc (e))
     by v e = same
-
-pub still_line : (unit : UnitId) (verb : Verb) (step : PortStep) (old new : LanValue) → is_replayed verb ≡ false → SameReplays old new
-    → Replays unit verb step old new
-still_line unit verb step old new none same seat is = record {
-  says = says_none seat verb step (replay_at old unit) (replay_at new unit) none (same unit);
-  beside = λ other e. same other;
-}
-
-pub region_line : (verb : Verb) → is_in_region verb ≡ true → is_replayed verb ≡ false
-region_line verbs.Open e = absurd (cc (e))
-region_line verbs.Close e = absurd (cc (e))
-region_line (verbs.ChangeMac mac) e = absurd (cc (e))
-region_line (verbs.Multicast control mac) e = absurd (cc (e))
-region_line (verbs.Post at len count) e = absurd (cc (e))
-region_line (verbs.Send mac len seed at) e = absurd (cc (e))
-region_line verb e = refl
 
 pub same_beside : (unit : UnitId) (old new : LanValue) → SameReplays old new → SameBeside unit old new
 same_beside unit old new same other e = same other
@@ -143,35 +95,11 @@ post_refused unit at len count posted code step old mid new e not first h k fits
       beside = λ other f. k.beside other f ∙ h.beside other f;
     })
 
--- one that posted all
-pub post_all : (unit : UnitId) (at len count : ℕ) (step : PortStep) (old new : LanValue) → step ≡ steps.Ends (outcomes.Posted count Success) → 1 ≤ count
-    → (((IsOn (replay_at old unit) × IsBufferLen len) → ⊥) → count ≡ 0) → ReplaysOn unit (HasPosted len count) old new
-    → Replays unit (verbs.Post at len count) step old new
-post_all unit at len count step old new e some first h seat is =
-    ends_on unit seat (verbs.Post at len count) step (outcomes.Posted count Success) old new e
-    (record {
-      says = record {
-        posted = count;
-        code = Success;
-        outcome_is = refl;
-        left_is = h.says;
-        refused = λ none. absurd (omega (arith, some, first none));
-        done = λ all. (refl, refl);
-      };
-      beside = h.beside;
-    })
-
 -- a call that succeeds finds the port open, and the length one of a buffer
 pub add_allowed : (unit : UnitId) (len posted : ℕ) (code : Hrc) (old mid new : LanValue) → code ≡ Success → ReplaysOn unit (HasPosted len posted) old mid
     → ReplaysOn unit (AddSays len (IsBufferLen len) code) mid new → ((IsOn (replay_at old unit) × IsBufferLen len) → ⊥) → ⊥
 add_allowed unit len posted code old mid new e h k none =
     absurd (cc (e, k.says.parameter (λ both. none (subst (λ (a : PortReplay). IsOn a) h.says both.0, both.1))))
-
--- a line whose frame passes the region
-pub send_passes : (unit : UnitId) (seat : PortSeat) (mac : Mac) (len seed at : ℕ) (now : LanValue) → IsReplayable seat now unit
-    → ((at + len ≤ 4096 * seat.pages) → ⊥) → ReplaysOn unit (StepSays seat (verbs.Send mac len seed at) (steps.Ends outcomes.Range)) now now
-send_passes unit seat mac len seed at now is passes =
-    record { says = inl (record { passes = passes; outcome_is = refl; left_is = refl }); beside = λ other e. refl }
 
 -- the part of a line's frame
 pub one_part : (part at len : ℕ) → is_valid part ≡ true → buffer_address part ≡ at → buffer_len part ≡ len → 14 ≤ len → len ≤ 65527

@@ -100,13 +100,6 @@ add_of_len unit descriptor len code old new valid is h = record {
   beside = h.beside;
 }
 
--- a buffer that is refused before the call
-pub add_refused : (unit : UnitId) (len : ℕ) (IsOne : Type 0) (now : LanValue) → ReplaysOn unit (AddSays len IsOne Parameter) now now
-add_refused unit len IsOne now = record {
-  says = record { posted = λ e. absurd (cc (e)); refused = λ _. refl; parameter = λ _. refl; ends = λ e. cc (e) };
-  beside = λ other e. refl;
-}
-
 -- one buffer more
 pub posts_more : (unit : UnitId) (len count : ℕ) (IsOne : Type 0) (code : Hrc) (old mid new : LanValue) → code ≡ Success → ReplaysOn unit (HasPosted len count) old mid
     → ReplaysOn unit (AddSays len IsOne code) mid new → ReplaysOn unit (HasPosted len (suc count)) old new

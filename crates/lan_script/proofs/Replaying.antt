@@ -110,9 +110,6 @@ replays_behind unit Says old mid new same h = record {
   beside = λ other e. h.beside other e ∙ same other;
 }
 
-pub beside_behind : (unit : UnitId) (old mid new : LanValue) → SameReplays old mid → SameBeside unit mid new → SameBeside unit old new
-beside_behind unit old mid new same h other e = h other e ∙ same other
-
 -- whatever a call leaves of its port, it leaves the others
 pub made_beside : (lan now : LanValue) (unit : UnitId) (ss : List Station) (answer : LanAnswer) (P : PortValue → PortValue → Type 0) → lan ≡ now → IsLan lan
     → IsSome (seat_at now.seats unit) → MadeAt lan.stations unit answer ss P → ((before after : PortValue) → P before after → after.unit ≡ before.unit)

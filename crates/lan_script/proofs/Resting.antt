@@ -16,7 +16,6 @@ use Rattle.lan_switch.specs.declared.station.Station.{Station}
 use Rattle.lan_script.specs.PortReplay.{IsOn}
 use Rattle.lan_script.specs.Replayed.{replay_at, settings_of}
 use Rattle.lan_script.specs.Resting.{FindsNone, HasReadAll, IsAllTaken, IsNoHarvest, OnNothing, ReadsAs, SamePorts, entries_read_at, reads_found, entries_read, reads_told, shown_of}
-use Rattle.lan_script.specs.Invariant.{IsLan}
 use Rattle.lan_script.specs.Seats.{IsSizedSeat, seat_at}
 use Rattle.lan_script.specs.Units.{IsOpenAt, LanValue}
 use Rattle.lan_script.specs.declared.seat.PortSeat.{PortSeat}
@@ -37,17 +36,6 @@ still_taken old new unit same all = by (port_of old.stations unit) (port_of new.
     by o None e h = tt
     by None (Some b) e h = absurd (cc (e))
     by (Some a) (Some b) e h = subst HasReadAll (same_some (record a { spare = 0 }) (record b { spare = 0 }) (sym e)) h
-
--- nothing is left to take of a port that is closed
-pub shut_taken : (lan : LanValue) (unit : UnitId) → (IsOpenAt lan unit → ⊥) → IsAllTaken lan unit
-shut_taken lan unit shut = by (port_of lan.stations unit) shut
-  where
-    by : (o : Option PortValue) → (IfSome o IsOpen → ⊥) → IfSome o HasReadAll
-    by (Some port) closed = λ opened. absurd (closed opened)
-    by None closed = tt
-
-pub finds_shut : (lan : LanValue) (unit : UnitId) → (IsOpenAt lan unit → ⊥) → FindsNone unit lan lan
-finds_shut lan unit shut = record { still = λ other. refl; all = shut_taken lan unit shut }
 
 -- a call that changes nothing of its port but the room
 pub port_rests : (lan now : LanValue) (unit : UnitId) (ss : List Station) (P : PortValue → PortValue → Type 0) → lan ≡ now → AtPort lan.stations unit ss P
@@ -121,9 +109,6 @@ sized_in (s ∷ seats) unit seat all at =
 
     tail : same_unit s.unit unit ≡ false → seat_at (s ∷ seats) unit ≡ seat_at seats unit
     tail e = rw e refl
-
-pub seat_sized : (lan now : LanValue) (unit : UnitId) (seat : PortSeat) → lan ≡ now → IsLan lan → seat_at now.seats unit ≡ Some seat → IsSizedSeat seat
-seat_sized lan now unit seat same is at = sized_in lan.seats unit seat is.sized (ap (λ (l : LanValue). seat_at l.seats unit) same ∙ at)
 
 -- a port that its replay leaves on is open
 pub on_open : (lan : LanValue) (unit : UnitId) → IsOn (replay_at lan unit) → IsOpenAt lan unit

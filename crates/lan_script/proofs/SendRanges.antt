@@ -7,30 +7,12 @@ use Rattle.boot_text.specs.declared.verb.Verb.{Verb}
 use Rattle.boot_text.specs.declared.verb.Verb.TheVariants as verbs
 use Rattle.tce_window.specs.Region.{in_region}
 use Rattle.vio_trace.specs.declared.outcome.Outcome.{Outcome}
-use Rattle.vio_trace.specs.declared.outcome.Outcome.TheVariants as outcomes
 use Rattle.lan_script.specs.Seats.{seat_at}
 use Rattle.lan_script.specs.SendRanges.{SaysRange, StepRanges, TellsNoRange}
 use Rattle.lan_script.specs.declared.lines.PortStep.{PortStep}
 use Rattle.lan_script.specs.declared.lines.PortStep.TheVariants as steps
 use Rattle.lan_script.specs.declared.seat.PortSeat.{PortSeat}
-use Rattle.lan_script.proofs.ReplayedRegion.{range_end, range_inside}
-
--- a frame that passes the region
-not_inside : (pages at len : ℕ) → (at + len ≤ 4096 * pages → ⊥) → in_region pages at len ≡ false
-not_inside pages at len not = by (in_region pages at len) refl
-  where
-    by : (b : Bool) → in_region pages at len ≡ b → in_region pages at len ≡ false
-    by true e = absurd (not (range_end pages at len e))
-    by false e = e
-
-pub passes_range : (unit : UnitId) (to : Mac) (len seed at : ℕ) (seats : List PortSeat)
-    → ((seat : PortSeat) → seat_at seats unit ≡ Some seat → at + len ≤ 4096 * seat.pages → ⊥)
-    → StepRanges unit (verbs.Send to len seed at) (steps.Ends outcomes.Range) seats
-passes_range unit to len seed at seats passes = by (seat_at seats unit) refl
-  where
-    by : (o : Option PortSeat) → seat_at seats unit ≡ o → IfSome o (λ seat. SaysRange seat.pages (verbs.Send to len seed at) outcomes.Range)
-    by None e = tt
-    by (Some seat) e = (λ is. not_inside seat.pages at len (passes seat e), λ out. refl)
+use Rattle.lan_script.proofs.ReplayedRegion.{range_inside}
 
 -- one that does not, and a step that does not end with `range`
 inside_not : (pages : ℕ) (to : Mac) (len seed at : ℕ) (outcome : Outcome) → TellsNoRange (steps.Ends outcome) → in_region pages at len ≡ true

@@ -7,7 +7,6 @@ use Rattle.vio_num.specs.declared.memory.NoMemory.{NoMemory}
 use Rattle.lan_switch.specs.declared.answers.SendRecord.{SendRecord}
 use Rattle.lan_switch.specs.Switch.{port_of, same_unit}
 use Rattle.vio_trace.specs.declared.lan_rows.FrameRow.{FrameRow}
-use Rattle.vio_trace.specs.declared.outcome.Outcome.{Outcome}
 use Rattle.vio_trace.specs.declared.outcome.Outcome.TheVariants as outcomes
 use Rattle.lan_script.specs.declared.lines.PortStep.{PortStep}
 use Rattle.lan_script.specs.declared.lines.PortStep.TheVariants as steps
@@ -18,7 +17,7 @@ use Rattle.lan_script.specs.LineSays.{AddsFrame, KeepsFrame, SaysSent, SendsAs, 
 use Rattle.lan_script.specs.PortCounts.{SameCounts}
 use Rattle.lan_script.specs.PortReplay.{PortReplay}
 use Rattle.lan_script.specs.Replayed.{SameReplays, bytes_sent, replay_at}
-use Rattle.lan_script.specs.Seats.{is_of_port, is_of_region, seat_at, seat_place}
+use Rattle.lan_script.specs.Seats.{seat_at, seat_place}
 use Rattle.lan_script.specs.Targets.{OffersMade, OffersTo, SpentFor}
 use Rattle.lan_script.specs.Units.{LanValue, port_key}
 use Rattle.lan_script.specs.declared.sending.Sent.{Sent}
@@ -104,56 +103,6 @@ sent_kept unit made (Ok s) old mid new seats frames offers first later kept code
             spent = spent_on v row (replay_at old v) (port_of old.stations v) (port_of new.stations v) (grow_on old mid new first later.grows v) (offers n e v other).spent;
           };
         }
-
--- a line in a region ends as one of a LAN unit
-pub region_of_port : (outcome : Outcome) → is_of_region outcome ≡ true → is_of_port outcome ≡ true
-region_of_port (outcomes.Code code) e = refl
-region_of_port outcomes.Range e = refl
-region_of_port outcomes.Done e = refl
-region_of_port (outcomes.Bytes shown) e = refl
-region_of_port (outcomes.Granted credits) e = absurd (cc (e))
-region_of_port (outcomes.Rejected reason) e = absurd (cc (e))
-region_of_port outcomes.Lost e = absurd (cc (e))
-region_of_port outcomes.Unanswered e = absurd (cc (e))
-region_of_port (outcomes.Sent tag) e = absurd (cc (e))
-region_of_port outcomes.NotLoggedIn e = absurd (cc (e))
-region_of_port (outcomes.NoCredit credits) e = absurd (cc (e))
-region_of_port (outcomes.Overlap tag) e = absurd (cc (e))
-region_of_port outcomes.Closed e = absurd (cc (e))
-region_of_port (outcomes.Dropped number held) e = absurd (cc (e))
-region_of_port (outcomes.Took count) e = absurd (cc (e))
-region_of_port (outcomes.TookThenLost count) e = absurd (cc (e))
-region_of_port (outcomes.Data len sum) e = absurd (cc (e))
-region_of_port (outcomes.Stale page) e = absurd (cc (e))
-region_of_port outcomes.Unknown e = absurd (cc (e))
-region_of_port (outcomes.Value value) e = absurd (cc (e))
-region_of_port (outcomes.Posted buffers code) e = absurd (cc (e))
-region_of_port (outcomes.Frame code number) e = absurd (cc (e))
-
--- it tells of no frame
-pub region_no_frame : (outcome : Outcome) → is_of_region outcome ≡ true → TellsNoFrame (steps.Ends outcome)
-region_no_frame (outcomes.Code code) e = tt
-region_no_frame outcomes.Range e = tt
-region_no_frame outcomes.Done e = tt
-region_no_frame (outcomes.Bytes shown) e = tt
-region_no_frame (outcomes.Granted credits) e = tt
-region_no_frame (outcomes.Rejected reason) e = tt
-region_no_frame outcomes.Lost e = tt
-region_no_frame outcomes.Unanswered e = tt
-region_no_frame (outcomes.Sent tag) e = tt
-region_no_frame outcomes.NotLoggedIn e = tt
-region_no_frame (outcomes.NoCredit credits) e = tt
-region_no_frame (outcomes.Overlap tag) e = tt
-region_no_frame outcomes.Closed e = tt
-region_no_frame (outcomes.Dropped number held) e = tt
-region_no_frame (outcomes.Took count) e = tt
-region_no_frame (outcomes.TookThenLost count) e = tt
-region_no_frame (outcomes.Data len sum) e = tt
-region_no_frame (outcomes.Stale page) e = tt
-region_no_frame outcomes.Unknown e = tt
-region_no_frame (outcomes.Value value) e = tt
-region_no_frame (outcomes.Posted buffers code) e = tt
-region_no_frame (outcomes.Frame code number) e = absurd (cc (e))
 
 -- the row of a frame was kept
 frames_kept : {V : Type 0} (f : V → List FrameRow) (lan : LanValue) (vecs : List V) (unit : UnitId) (row : FrameRow) (p : ℕ) (old new : V)
