@@ -1,5 +1,5 @@
 -- What calls on a unit's port or window leave of all units of a run.
-use Rattle.std.proofs.Common.{◌≡◌, ◌≤◌, ◌<◌, ℕ, suc, arith, Bool, true, false, List, [], ◌∷◌, Option, Some, None, IfSome, IfOk, OnOk, OnErr, Result, Ok, Err, IsSome, length, map, option_map, refl, sym, ◌∙◌, ap, subst}
+use Rattle.std.proofs.Common.{◌≡◌, ◌≤◌, ◌<◌, ℕ, suc, arith, Bool, true, false, true≢false, List, [], ◌∷◌, Option, Some, None, IfSome, IfOk, OnOk, OnErr, Result, Ok, Err, IsSome, length, map, option_map, refl, sym, ◌∙◌, ap, subst}
 use Rattle.vio_num.specs.declared.names.UnitId.{UnitId}
 use Rattle.vio_num.specs.declared.memory.NoMemory.{NoMemory}
 use Rattle.tce_window.specs.PlainPort.{known_of}
@@ -12,7 +12,7 @@ use Rattle.lan_buffers.specs.declared.settings.Settings.{Settings}
 use Rattle.lan_switch.specs.declared.answers.LanAnswer.{LanAnswer}
 use Rattle.lan_switch.specs.declared.answers.SendRecord.{SendRecord}
 use Rattle.lan_switch.specs.declared.station.Station.{Station}
-use Rattle.lan_switch.specs.Calls.{Reserves}
+use Rattle.lan_switch.specs.Calls.{Frees, Reserves}
 use Rattle.lan_switch.specs.Sending.{FailsToSend, IsSent, LanWindows, windows_of}
 use Rattle.lan_switch.specs.Source.{OnlyReadThrough}
 use Rattle.lan_switch.specs.declared.source.TheConstants.{MOST_PARTS}
@@ -22,7 +22,7 @@ use Rattle.lan_script.specs.declared.seat.PortSeat.{PortSeat}
 use Rattle.lan_script.specs.declared.windows.Place.{Place}
 use Rattle.lan_script.specs.Invariant.{CarryAll, IsLan, Owes}
 use Rattle.lan_script.specs.Seats.{seat_at, seat_place}
-use Rattle.lan_script.specs.Units.{HavePorts, LanValue, WindowKey, port_key, seat_key, window_key}
+use Rattle.lan_script.specs.Units.{HavePorts, IsOpenAt, LanValue, WindowKey, port_key, seat_key, window_key}
 use Rattle.lan_script.specs.Windows.{FoundIn, HasPlace, facts_in, facts_of, place_in, window_in, with_window}
 use Rattle.lan_script.proofs.Balancing.{Sends, station_units}
 use Rattle.lan_script.proofs.Called.{SamePort, at_balance, at_begun, at_carried, at_keys}
@@ -114,6 +114,25 @@ port_with unit (s ∷ ss) before after at same =
 
     later : same_unit s.port.unit unit ≡ false → with_port unit after (s ∷ ss) ≡ s ∷ with_port unit after ss
     later e = rw e refl
+
+not_open : (settings : Option Settings) → settings ≡ None → IsSome settings → ⊥
+not_open None none is = true≢false (sym is)
+not_open (Some settings) none is = cc (none)
+
+-- One that frees the port leaves it closed.
+pub made_shut : (lan now : LanValue) (unit : UnitId) (answer : LanAnswer) (ss : List Station) → lan ≡ now → IsLan lan → IsSome (seat_at now.seats unit)
+    → MadeAt lan.stations unit answer ss (Frees answer) → ¬ IsOpenAt (record lan { stations = ss }) unit
+made_shut lan now unit answer ss same is there h opened = shut (subst (λ (o : Option PortValue). IfSome o IsOpen) after opened)
+  where
+    made : AtPort lan.stations unit ss (Frees answer)
+    made = h.made (port_there lan now unit same is there)
+
+    after : port_of ss unit ≡ Some made.after
+    after = ap (λ (list : List Station). port_of list unit) made.rest
+        ∙ port_with unit lan.stations made.before made.after made.was (ap (λ (p : PortValue). p.unit) made.done.done)
+
+    shut : IsOpen made.after → ⊥
+    shut opened = not_open made.after.settings (ap (λ (p : PortValue). p.settings) made.done.done) opened
 
 -- room was made at the unit's port
 pub room_made : (ss ss' : List Station) (unit : UnitId) (answer : Result Unit NoMemory) → AtPort ss unit ss' (Reserves 1 answer)

@@ -169,6 +169,7 @@ impl Lan {
         ensures code { may_answer rows.FreeLogicalLan result ≡ true }
         ensures replays { ClosesAt unit result self.old self.new }
         ensures places { self.new.places ≡ self.old.places }
+        ensures shut { ¬ IsOpenAt self.new unit }
     {
         self.switch.free(unit).code
     }
@@ -207,6 +208,7 @@ impl Lan {
         ensures frames { self.new.frames ≡ self.old.frames }
         ensures counts { SameCounts self.old self.new }
         ensures closed { IfOk result (λ closed. IsTrue closed ↔ (¬ IsOpenAt self.new unit)) }
+        ensures done { IfOk result (λ closed. closed ≡ true) }
         ensures macs { MovesMac None (replay_at self.old unit) (replay_at self.new unit) }
         ensures beside { SameBeside unit self.old self.new }
         ensures places { self.new.places ≡ self.old.places }

@@ -296,6 +296,7 @@ impl<'p> Script<'p> {
         ensures acts { IfOk result (λ moved.
             FailsLine line.now pairs.old pairs.new self.old self.new
             × (moved ≡ Moved.Quiet → self.new ≡ self.old)) }
+        ensures done { IfOk result (λ moved. moved ≡ Moved.Moved) }
     {
         if fail(self.partition, &self.seats, pairs, lan)? {
             self.end(line, Outcome::Done)?;

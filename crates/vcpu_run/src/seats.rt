@@ -386,6 +386,7 @@ fn fail_at(unit: UnitId, seat: Seat, pairs: &mut [Pair], lan: &mut Lan) -> Resul
     ensures shut { AllShut pairs.old pairs.new }
     ensures down { IfOk result (λ done. done ≡ true → IsShutAt seat pairs.new) }
     ensures closes { IfOk result (λ done. done ≡ true → IsClosedAt unit seat lan.new) }
+    ensures done { IfOk result (λ done. done ≡ true) }
     ensures others { SameElse (seat ∷ []) pairs.old pairs.new }
     ensures lan { lan.new.seats ≡ lan.old.seats }
     ensures idle { AllSilent lan.old lan.new }
@@ -419,6 +420,7 @@ pub(crate) fn fail(
     ensures down { IfOk result (λ done. done ≡ true → SeatsShut seats.now pairs.new) }
     ensures closes { IfOk result (λ done. done ≡ true →
         PortsClosed partition seats.now lan.new) }
+    ensures done { IfOk result (λ done. done ≡ true) }
     ensures others { SameElse seats.now pairs.old pairs.new }
     ensures lan { lan.new.seats ≡ lan.old.seats }
     ensures idle { AllSilent lan.old lan.new }

@@ -1,6 +1,6 @@
 use Rattle.lan_switch.specs.Calls.{Frees}
 use Rattle.lan_script.proofs.Called.{frees_same}
-use Rattle.lan_script.proofs.Lans.{lan_made}
+use Rattle.lan_script.proofs.Lans.{lan_made, made_shut}
 use Rattle.lan_script.proofs.CountedCalls.{frees_rows}
 use Rattle.lan_script.proofs.CountsKept.{made_counts}
 use Rattle.lan_script.proofs.ReplayedCalls.{frees_replay}
@@ -23,3 +23,7 @@ pub returns-clause-replays : goal.returns-clause-replays
 returns-clause-replays c =
     made_replays _ c.args.self.now c.args.unit c.free.new.self c.free.result (Frees c.free.result) (λ a b. CloseSays a.settings (outcomes.Code c.free.result.code) a b) c.self.view_is
     c.self.invariant c.requires.there c.free.ensures (λ before after was h. frees_replay c.free.result before after h)
+
+pub returns-clause-shut : goal.returns-clause-shut
+returns-clause-shut c =
+    made_shut _ c.args.self.now c.args.unit c.free.result c.free.new.self c.self.view_is c.self.invariant c.requires.there c.free.ensures
