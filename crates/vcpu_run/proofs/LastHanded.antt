@@ -34,7 +34,7 @@ use Rattle.vcpu_run.specs.CopyRows.{same_unit}
 use Rattle.vcpu_run.specs.Freeing.{NoneBreaks}
 use Rattle.vcpu_run.specs.Gathered.{HasLawfulQueue, queue_at, rows_if, sessions_at, trace_of}
 use Rattle.vcpu_run.specs.LastGiven.{AreEarlier, AreLastGiven, IsEventComing, IsLastGiven, most_now, responses_now}
-use Rattle.vcpu_run.specs.Links.{EventWaits}
+use Rattle.vcpu_run.specs.Links.{ClientWaits, EventWaits, link_state, links_of}
 use Rattle.vcpu_run.specs.Machines.{AreScripts, IsOfPlan}
 use Rattle.vcpu_run.specs.Pairs.{AreOfOneHome}
 use Rattle.vcpu_run.specs.Received.{AreAtRest}
@@ -47,14 +47,15 @@ use Rattle.vcpu_run.proofs.Copied.{names_apart}
 use Rattle.vcpu_run.proofs.Following.{each_from_all, ordered_from}
 use Rattle.vcpu_run.proofs.GivenAnswers.{keeps_none}
 use Rattle.vcpu_run.proofs.InSessions.{in_session}
-use Rattle.vcpu_run.proofs.Listed.{held}
+use Rattle.vcpu_run.proofs.Listed.{held, held_is}
 use Rattle.vcpu_run.proofs.Losing.{none_ahead}
 use Rattle.vcpu_run.proofs.Parts.{IsIn, each_in, found}
 use Rattle.vcpu_run.proofs.Placing.{seats_ordered}
 use Rattle.vcpu_run.proofs.QueueLaws.{entries_are, sessions_told}
 use Rattle.vcpu_run.proofs.Seated.{planned_in}
 use Rattle.vcpu_run.proofs.SentTo.{answers_are}
-use Rattle.vcpu_run.proofs.Settling.{client_waits, emptied, handed_are}
+use Rattle.vcpu_run.proofs.Resting.{link_at}
+use Rattle.vcpu_run.proofs.Settling.{client_waits, emptied, handed_are, unfreed_taken}
 use Rattle.vcpu_run.proofs.Sole.{same_refl}
 use Rattle.lan_script.proofs.Order.{Each, Ordered}
 
@@ -146,18 +147,28 @@ ends_with unit pipe history before behind laws parts same few =
     (sym (filter-append is_response split.0 (entries_of pipe.session pipe.sent))
     ∙ (ap (filter is_response) (sym split.1) ∙ (same ∙ (ap (answers_of unit) parts ∙ answers_append unit before behind)))) few
 
+-- none are no more than 0
+none_few : (entries : List Entry) → length entries ≤ 0 → entries ≡ []
+none_few [] few = refl
+none_few (entry ∷ entries) few = absurd (omega (arith, few))
+
+-- a queue that is not registered got none in its session
+most_none : (link : PlainLink) → (side_of link false).registered ≡ false → most_now link ≡ 0
+most_none link off = ap {B = ℕ} (λ b. cond b (responses_now link) 0) off
+
 -- What is so of a login of a pair whose link has no event on its way.
 at_rest : (partitions : List Partition) (trace : Trace) (server client : UnitId) (pair : Pair) (history : List Served) (grants : List Grant) (session login : ℕ) → trace.serves ≡ history → trace.grants ≡ grants
     → IsLawfulPipe (side_of pair.link false).queue → pair.own.unit ≡ server → pair.server ≡ server
     → last_sent (sessions_of trace client) ≡ entries_of (side_of pair.link false).queue.session (side_of pair.link false).queue.sent
     → responses_to trace client ≡ answers_of server trace.serves
     → (NoneBreaks (script_of partitions client.partition) → last_taken (sessions_of trace client) ≡ last_sent (sessions_of trace client))
+    → ((side_of pair.link false).registered ≡ true → last_taken (sessions_of trace client) ≡ last_sent (sessions_of trace client))
     → responses (side_of pair.link false).queue.sent ≡ answers_of pair.server history → (IsEventComing (end_of [] pair.link true) → ⊥)
     → IsLastGiven pair.own.unit pair.link grants history session login → IsCutOff server trace.grants session login ⊎ AreLastOf partitions trace server client login
-at_rest partitions trace server client pair history grants session login serves lines laws own name last_row once handed same quiet (inl cut) =
+at_rest partitions trace server client pair history grants session login serves lines laws own name last_row once handed stays same quiet (inl cut) =
     inl (subst (λ (all : List Grant). IsCutOff server all session login) (sym lines) (subst (λ (id : UnitId). IsCutOff id grants session login) own cut))
-at_rest partitions trace server client pair history grants session login serves lines laws own name last_row once handed same quiet (inr (inl comes)) = absurd (quiet comes)
-at_rest partitions trace server client pair history grants session login serves lines laws own name last_row once handed same quiet (inr (inr few)) =
+at_rest partitions trace server client pair history grants session login serves lines laws own name last_row once handed stays same quiet (inr (inl comes)) = absurd (quiet comes)
+at_rest partitions trace server client pair history grants session login serves lines laws own name last_row once handed stays same quiet (inr (inr few)) =
     let pipe : PipeValue = (side_of pair.link false).queue in
     let least = most_least pair.link in
     let most = few.few in
@@ -173,8 +184,15 @@ at_rest partitions trace server client pair history grants session login serves 
       once = once;
       front = ends.0;
       sent = sent;
+      handed = given (side_of pair.link false).registered refl few.behind (ends.0) sent (subst (λ (id : UnitId). length (answers_of id few.behind) ≤ most_now pair.link) own few.few);
       taken = λ none. ap (filter is_response) (handed none) ∙ sent;
     })
+  where
+    given : (b : Bool) → (side_of pair.link false).registered ≡ b → (behind : List Served) (front : List Entry)
+        → filter is_response (last_sent (sessions_of trace client)) ≡ front ++ answers_of server behind → length (answers_of server behind) ≤ most_now pair.link
+        → (answers_of server behind ≡ []) ⊎ (filter is_response (last_taken (sessions_of trace client)) ≡ front ++ answers_of server behind)
+    given true on behind front sent few = inr (ap (filter is_response) (stays on) ∙ sent)
+    given false off behind front sent few = inl (none_few (answers_of server behind) (omega (arith, few, most_none pair.link off)))
 
 pub last_are_handed_over : (pairs : List Pair) (scripts : List Script) (lan : LanValue) (rows : LanRows) (history : List Served) (grants : List Grant) (copies : List CopyRecord) (partitions : List Partition)
     → AreOfOneHome copies pairs → AreScripts pairs lan.seats scripts → All (HasLawfulQueue pairs) (seats_of scripts)
@@ -207,6 +225,9 @@ last_are_handed_over pairs scripts lan rows history grants copies partitions hom
     let u = held HasNothing (slice_get rests.units server.unit) rest.1 in
     let event : EventWaits pair =
     subst (λ (o : Option Pair). IfSome o EventWaits) there.1 (client_waits rests.units pairs scripts lan.seats partitions client server plan rests.idle serves drives).1 in
+    let waits : ClientWaits (link_state pair.link) =
+    held_is ClientWaits (slice_get (links_of pairs) server.unit) (link_state pair.link) (link_at pairs server.unit pair there.1)
+    (client_waits rests.units pairs scripts lan.seats partitions client server plan rests.idle serves drives).0 in
     let quiet : IsEventComing (end_of [] pair.link true) → ⊥ =
     λ comes. none_ahead [] pair.link rest.0.taken (keeps_none pair laws.some_slots rest.0 event) (record { registered = rest.0.registered; comes = comes }) in
     let last_row : last_sent (sessions_of trace client) ≡ entries_of client_pipe.session client_pipe.sent = ap last_sent sessions ∙ last_is client client_pipe is.begun in
@@ -218,4 +239,5 @@ last_are_handed_over pairs scripts lan rows history grants copies partitions hom
     (λ same given. at_rest partitions trace server client pair history grants session login refl refl client_laws own there.2 last_row
     (answers_are pairs scripts lan rows history grants copies partitions are lawful plan answered server client serves drives)
     (λ none. last_same (sessions_of trace client)
-    (handed_are pairs scripts lan rows history grants copies partitions rests.units are plan rests.idle rests.unfreed rests.over client server drives none)) same quiet given))
+    (handed_are pairs scripts lan rows history grants copies partitions rests.units are plan rests.idle rests.unfreed rests.over client server drives none))
+    (λ on. last_same (sessions_of trace client) (subst LastIsTakenIf (sym sessions) (unfreed_taken client pair (λ some. on) waits))) same quiet given))

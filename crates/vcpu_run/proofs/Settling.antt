@@ -234,7 +234,7 @@ last_if [] last = absurd last
 last_if (row ∷ rows) last = last
 
 -- a client's queue that was not freed
-unfreed_taken : (unit : UnitId) (pair : Pair) → IsNotFreed pair → ClientWaits (link_state pair.link) → LastIsTakenIf (session_rows unit (side_of pair.link false).queue)
+pub unfreed_taken : (unit : UnitId) (pair : Pair) → IsNotFreed pair → ClientWaits (link_state pair.link) → LastIsTakenIf (session_rows unit (side_of pair.link false).queue)
 unfreed_taken unit pair kept waits = at (side_of pair.link false).queue.session refl
   where
     pipe : PipeValue

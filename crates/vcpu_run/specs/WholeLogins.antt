@@ -32,7 +32,7 @@ last_taken (row ∷ next ∷ rows) = last_taken (next ∷ rows)
 
 -- The rows from a place on have all of the unit's rows of the login and of later ones. The responses that the client's queue got are one
 -- for each of the unit's rows with an answer, in their order; those of the rows from that place on are the last of its last session; and
--- the queue handed them over, where its partition makes no raw call and does not fail.
+-- the queue handed them over, if there are any. (Where its partition makes no raw call and does not fail, it handed over all before them, too.)
 pub record AreLastOf (partitions : List Partition) (trace : Trace) (server client : UnitId) (login : ℕ) : Type 0 where
   pub before : List Served
   pub behind : List Served
@@ -41,6 +41,7 @@ pub record AreLastOf (partitions : List Partition) (trace : Trace) (server clien
   pub once : responses_to trace client ≡ answers_of server trace.serves
   pub front : List Entry
   pub sent : filter is_response (last_sent (sessions_of trace client)) ≡ front ++ answers_of server behind
+  pub handed : (answers_of server behind ≡ []) ⊎ (filter is_response (last_taken (sessions_of trace client)) ≡ front ++ answers_of server behind)
   pub taken : NoneBreaks (script_of partitions client.partition) → filter is_response (last_taken (sessions_of trace client)) ≡ front ++ answers_of server behind
 
 -- Of each login that a line grants to a server unit: it is cut off, or its answers and those behind are the last of the client's last session.
